@@ -94,6 +94,16 @@ add-inf-number f (fin s m e) nan p q = absurd q
 add-inf-number f (fin s m e) (inf t) p q = absurd q
 add-inf-number f (fin s m e) (fin t n d) p q = sum-number f s (m * up e * down d) t (n * up d * down e) (down e * down d)
 
+neg-finite : (x : Float) → T (finite x) → T (finite (neg x))
+unfolding neg
+neg-finite nan p = p
+neg-finite (inf s) p = p
+neg-finite (fin s m e) p = tt
+
+pub sub-number : (f : Format) (x y : Float) → T (finite x) → T (finite y) → isNan (sub f x y) ≡ false
+unfolding sub
+sub-number f x y p q = add-number f x (neg y) p (neg-finite y q)
+
 pub mul-number : (f : Format) (x y : Float) → T (finite x) → T (finite y) → isNan (mul f x y) ≡ false
 unfolding mul
 mul-number f nan y p q = absurd p

@@ -1,5 +1,6 @@
--- Laws of floats. Other crates cite Order, Exact, Clamped, RootLaw and Agree; the rest is what narrowing and the root stand on.
+-- Laws of floats. Other crates cite Order, Monotone, Exact, Clamped, RootLaw and Agree; the rest is what narrowing and the root stand on.
 pub mod Order
+pub mod Monotone
 pub mod Exact
 pub mod Clamped
 pub mod RootLaw

@@ -1,7 +1,7 @@
 -- The order of floats: `le` is transitive, and of two values that are no NaN `lt x y` is the negation of `le y x`. Infinities and both zeros are included.
 -- A finite value is (p - n) / d with natural numbers p, n, d, of which p or n is 0. So x ≤ y says p₁ d₂ + n₂ d₁ ≤ p₂ d₁ + n₁ d₂. Assumes nothing.
 use mathlib.Core.Path.{_≡_, refl, sym, ap, subst}
-use mathlib.Core.Bool.{Bool, true, false, not, _&&_, _||_}
+use mathlib.Core.Bool.{Bool, true, false, not, _&&_, _||_, true≢false}
 use mathlib.Core.Logic.{_⊎_, inl, inr, ⊎-elim}
 use Prim.Native.Nat.{ℕ, _+_, _*_, _≤_, _<_}
 use native.Mathlib.Nat.{add-mul, mul-right-comm, mul-le-mul-right, le-of-mul-le-mul-right, zero-mul}
@@ -36,15 +36,15 @@ and-both true b s t = t
 and-both false b s t = s
 
 -- what a sign makes of a size: its positive and its negative part
-abbrev plus : Bool → ℕ → ℕ
+abbrev pub plus : Bool → ℕ → ℕ
 plus false a = a
 plus true a = 0
 
-abbrev less : Bool → ℕ → ℕ
+abbrev pub less : Bool → ℕ → ℕ
 less false a = 0
 less true a = a
 
-abbrev side : Bool → ℕ → Bool → ℕ → ℕ
+abbrev pub side : Bool → ℕ → Bool → ℕ → ℕ
 side s a t b = plus s a + less t b
 
 -- ---- `below` and `level` as orders of natural numbers
@@ -61,7 +61,7 @@ same-of false a true b h = omega (arith, eqb→eq a b (and-left (eqb a b) (eqb a
 same-of true a false b h = omega arith
 same-of true a true b h = omega (arith, eqb→eq a b (and-left (eqb a b) true h))
 
-le-of : (s : Bool) (a : ℕ) (t : Bool) (b : ℕ) → T (below s a t b || level s a t b) → side s a t b ≤ side t b s a
+pub le-of : (s : Bool) (a : ℕ) (t : Bool) (b : ℕ) → T (below s a t b || level s a t b) → side s a t b ≤ side t b s a
 le-of s a t b h =
     ⊎-elim (λ (w : T (below s a t b)). le-of-less (lt-of s a t b w)) (λ (w : T (level s a t b)). same-of s a t b w)
     (or-cases (below s a t b) (level s a t b) h)
@@ -80,7 +80,7 @@ split a b h = go (ltb a b) (ltb→lt a b) (λ (n : T (not (ltb a b))). omega (ar
     go true f g = inl (f tt)
     go false f g = inr (g tt)
 
-to-le : (s : Bool) (a : ℕ) (t : Bool) (b : ℕ) → side s a t b ≤ side t b s a → T (below s a t b || level s a t b)
+pub to-le : (s : Bool) (a : ℕ) (t : Bool) (b : ℕ) → side s a t b ≤ side t b s a → T (below s a t b || level s a t b)
 to-le false a false b h =
     ⊎-elim (λ (l : a < b). or-left (ltb a b) (eqb a b && true) (lt→ltb a b l)) (λ (e : a ≡ b). or-right (ltb a b) (eqb a b && true) (and-both (eqb a b) true (eqb-of a b e) tt))
     (split a b (omega arith))
@@ -94,11 +94,11 @@ to-le true a true b h =
 
 -- ---- fractions
 
-plus-mul : (s : Bool) (a d : ℕ) → plus s (a * d) ≡ plus s a * d
+pub plus-mul : (s : Bool) (a d : ℕ) → plus s (a * d) ≡ plus s a * d
 plus-mul false a d = refl
 plus-mul true a d = sym (zero-mul d)
 
-less-mul : (s : Bool) (a d : ℕ) → less s (a * d) ≡ less s a * d
+pub less-mul : (s : Bool) (a d : ℕ) → less s (a * d) ≡ less s a * d
 less-mul false a d = sym (zero-mul d)
 less-mul true a d = refl
 
@@ -119,7 +119,7 @@ down-pos (negsuc k) = pow-pos _
 sides : (s : Bool) (a d : ℕ) (t : Bool) (b d' : ℕ) → side s (a * d') t (b * d) ≡ plus s a * d' + less t b * d
 sides s a d t b d' = simp (plus-mul s a d', less-mul t b d)
 
-fin-le : (s : Bool) (m : ℕ) (e : ℤ) (t : Bool) (n : ℕ) (d : ℤ) → T (le (fin s m e) (fin t n d))
+pub fin-le : (s : Bool) (m : ℕ) (e : ℤ) (t : Bool) (n : ℕ) (d : ℤ) → T (le (fin s m e) (fin t n d))
     → plus s (m * up e) * down d + less t (n * up d) * down e ≤ plus t (n * up d) * down e + less s (m * up e) * down d
 unfolding le
 fin-le s m e t n d h =
@@ -221,3 +221,28 @@ lt-is-not-le x y p q = go (lt x y) (le y x) (lt-not-le x y) (not-lt-le x y p q)
 pub lt-le : (x y : Float) → T (lt x y) → T (le x y)
 unfolding le
 lt-le x y h = or-left (lt x y) (lib.Ieee.eq x y) h
+
+-- ---- the ends of the order, and that a NaN is in no relation
+pub lowest : (x : Float) → isNan x ≡ false → T (le (inf true) x)
+unfolding le isNan
+lowest nan p = absurd (true≢false p)
+lowest (inf true) p = tt
+lowest (inf false) p = tt
+lowest (fin s m e) p = tt
+
+pub highest : (x : Float) → isNan x ≡ false → T (le x (inf false))
+unfolding le isNan
+highest nan p = absurd (true≢false p)
+highest (inf true) p = tt
+highest (inf false) p = tt
+highest (fin s m e) p = tt
+
+pub not-nan : (x y : Float) → T (le x y) → (isNan x ≡ false) × (isNan y ≡ false)
+unfolding le isNan
+not-nan nan y h = absurd h
+not-nan (inf s) nan h = absurd h
+not-nan (fin s m e) nan h = absurd h
+not-nan (inf s) (inf t) h = (refl, refl)
+not-nan (inf s) (fin t n d) h = (refl, refl)
+not-nan (fin s m e) (inf t) h = (refl, refl)
+not-nan (fin s m e) (fin t n d) h = (refl, refl)

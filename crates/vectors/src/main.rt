@@ -1,6 +1,7 @@
-// Runs vectors that an independent program made (tools/float_vectors.py) and compares every bit of each answer.
+// Runs vectors that independent programs made (tools/float_vectors.py, tools/logistic_vectors.py) and compares every bit of each answer.
 // It writes a line for each file: how many were compared, how many differ, and the first that does.
 use libc::STDOUT_FILENO;
+use logistic::Logistic;
 
 // What is compared.
 enum Helper {
@@ -12,6 +13,8 @@ enum Helper {
     FiniteWide,
     FromBits,
     BitsFinite,
+    Score,
+    Presence,
 }
 
 // How many cases were compared, how many differ, and the first that does.
@@ -60,6 +63,22 @@ fn truth(b: bool) -> u64 {
     if b { 1 } else { 0 }
 }
 
+// The logistic's answer to the z of these bits: 2^32 times the reply number, and the score's bits or the place.
+fn scored(z: u32) -> u64 {
+    let answer = logistic::score(floats::from_bits(z));
+    match answer {
+        Logistic::Score(s) => pattern(s),
+        Logistic::NotANumber => 0x6_0000_0000,
+    }
+}
+
+// The presence score of a motion, in the low word, and a threshold, in the high word.
+fn present(both: u64) -> u64 {
+    let motion = floats::from_bits(short(both));
+    let threshold = floats::from_bits(short(both / 4294967296));
+    pattern(logistic::presence_score(motion, threshold))
+}
+
 fn answer(helper: Helper, input: u64) -> u64 {
     match helper {
         Helper::Root => floats::wide_to_bits(floats::root(floats::wide_from_bits(input))),
@@ -70,6 +89,8 @@ fn answer(helper: Helper, input: u64) -> u64 {
         Helper::FiniteWide => truth(floats::is_finite_wide(floats::wide_from_bits(input))),
         Helper::FromBits => pattern(floats::from_bits(short(input))),
         Helper::BitsFinite => truth(floats::bits_finite(short(input))),
+        Helper::Score => scored(short(input)),
+        Helper::Presence => present(input),
     }
 }
 
@@ -139,22 +160,32 @@ fn compare_file(helper: Helper, file: i32) -> Tally {
     tally
 }
 
+fn text(t: &[u8]) {
+    io::write_all(STDOUT_FILENO, t);
+}
+
+fn field(name: &[u8], value: u64) {
+    text(name);
+    io::print_hex(STDOUT_FILENO, value, 16);
+}
+
 fn report(name: &[u8], t: Tally) {
-    io::write_all(STDOUT_FILENO, name);
-    io::write_all(STDOUT_FILENO, b": ");
+    text(name);
+    text(b": ");
     io::print_decimal(STDOUT_FILENO, t.compared);
-    io::write_all(STDOUT_FILENO, b" compared, ");
+    text(b" compared, ");
     io::print_decimal(STDOUT_FILENO, t.differ);
-    io::write_all(STDOUT_FILENO, b" differ\n");
-    if t.differ != 0 {
-        io::write_all(STDOUT_FILENO, b"  first: input ");
-        io::print_hex(STDOUT_FILENO, t.input, 16);
-        io::write_all(STDOUT_FILENO, b", answer ");
-        io::print_hex(STDOUT_FILENO, t.answer, 16);
-        io::write_all(STDOUT_FILENO, b", right ");
-        io::print_hex(STDOUT_FILENO, t.right, 16);
-        io::write_all(STDOUT_FILENO, b"\n");
+    text(b" differ\n");
+}
+
+fn report_first(t: Tally) {
+    if t.differ == 0 {
+        return;
     }
+    field(b"  first: input ", t.input);
+    field(b", answer ", t.answer);
+    field(b", right ", t.right);
+    text(b"\n");
 }
 
 fn run(helper: Helper, name: &[u8]) {
@@ -163,17 +194,36 @@ fn run(helper: Helper, name: &[u8]) {
         os::fail(name);
         return;
     }
-    report(name, compare_file(helper, file));
+    let tally = compare_file(helper, file);
     libc::close(file);
+    report(name, tally);
+    report_first(tally);
 }
 
-fn main() {
+fn run_floats() {
     run(Helper::Root, b"roots");
     run(Helper::Narrow, b"narrowings");
     run(Helper::Widen, b"widenings");
     run(Helper::Clamp, b"clamps");
+}
+
+fn run_patterns() {
     run(Helper::Finite, b"finite");
     run(Helper::FiniteWide, b"finite_wide");
     run(Helper::FromBits, b"patterns");
     run(Helper::BitsFinite, b"finite_patterns");
+}
+
+fn run_logistic() {
+    run(Helper::Score, b"logistic_table");
+    run(Helper::Score, b"logistic_multiples");
+    run(Helper::Score, b"logistic_edges");
+    run(Helper::Score, b"logistic_spread");
+    run(Helper::Presence, b"logistic_presence");
+}
+
+fn main() {
+    run_floats();
+    run_patterns();
+    run_logistic();
 }
