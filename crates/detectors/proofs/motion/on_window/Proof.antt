@@ -1,0 +1,24 @@
+-- `motion::on_window` meets its contract.
+use borrow.Author.Needs.{needs}
+use Rattle.rvcsi_core.proofs.Tested.{passed, failed}
+use Rattle.detectors.specs.Motion.{motionStep}
+use Rattle.detectors.proofs.Ranges.{motion-below}
+use Rattle.detectors.proofs.motion.on_window.Statement.{statement}
+use Rattle.detectors.proofs.motion.on_window.Tie as tie
+
+in-range-requires : tie.Need-in-range-requires
+in-range-requires c κs = search needs
+
+returns : tie.Need-returns
+unfolding motionStep
+returns c = rw (failed (c .before .in-range .ensures) (c .if1 .taken))
+
+moved-requires : tie.Need-moved-requires
+moved-requires c κs = motion-below _ _ (passed (c .before .in-range .ensures) (c .if1 .left))
+
+returns-2 : tie.Need-returns-2
+unfolding motionStep
+returns-2 c = rw (passed (c .before .before .before .in-range .ensures) (c .before .before .if1 .left), ← c .before .moved .ensures)
+
+pub on-window-spec : {M : Type 1} → statement M
+on-window-spec = tie.close (tie.spec in-range-requires returns moved-requires returns-2)
