@@ -1,0 +1,6 @@
+-- Definitions for sums, rows, result lists and tests over a count.
+pub mod Fold
+pub mod Tab
+pub mod Row
+pub mod Laid
+pub mod All
