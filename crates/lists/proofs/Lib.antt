@@ -7,3 +7,4 @@ pub mod Row
 pub mod Small
 pub mod Tests
 pub mod Sound
+pub mod Lengths

@@ -1,0 +1,4 @@
+pub mod Settings
+pub mod Distance
+pub mod Drift
+pub mod History
