@@ -1,0 +1,10 @@
+-- Laws of the set, the batch and the judging, for a reader: Places, Six, Owed, Sound, Keen and Agree. Arms, Pushes and Rounds serve the proofs of the functions.
+pub mod Places
+pub mod Six
+pub mod Owed
+pub mod Sound
+pub mod Agree
+pub mod Keen
+pub mod Arms
+pub mod Pushes
+pub mod Rounds
