@@ -61,4 +61,4 @@ sets-keep c d ok ok′ keener slots slots′ n n′ store store′ i j hi hj l l
     seen slots′ n′ store′ j hj l′ d ej (seconds windows)
     ∙ ap (λ (s : List Float). presenceRun d s .state .present) (second-scores windows)
     ∙ demand-3 c d ok ok′ keener (pairs windows) each
-      (sym (ap (λ (s : List Float). presenceRun c s .state .present) (first-scores windows)) ∙ sym (seen slots n store i hi l c ei (firsts windows)) ∙ here)
+    (sym (ap (λ (s : List Float). presenceRun c s .state .present) (first-scores windows)) ∙ sym (seen slots n store i hi l c ei (firsts windows)) ∙ here)

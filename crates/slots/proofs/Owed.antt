@@ -50,7 +50,7 @@ set-in s h =
     record {
       few = leb-true _ _ (a .0);
       all-in = all-each (inAt (s .slots)) (s .count) (b .0);
-      apart = λ i l. all-each (otherAt (s .slots) (detectorAt (s .slots) i)) i (all-each (freshAt (s .slots)) (s .count) (b .1) i l)
+      apart = λ i l. all-each (otherAt (s .slots) (detectorAt (s .slots) i)) i (all-each (freshAt (s .slots)) (s .count) (b .1) i l);
     }
 
 pub in-set : (s : Detectors) → SetIn (s .slots) (s .count) → setOk s ≡ true
@@ -59,7 +59,7 @@ in-set s g =
     rw (
       le-leb (s .count) places (g .few),
       all-true (inAt (s .slots)) (s .count) (g .all-in),
-      all-true (freshAt (s .slots)) (s .count) (λ i l. all-true (otherAt (s .slots) (detectorAt (s .slots) i)) i (g .apart i l))
+      all-true (freshAt (s .slots)) (s .count) (λ i l. all-true (otherAt (s .slots) (detectorAt (s .slots) i)) i (g .apart i l)),
     )
 
 -- ---- fresh
@@ -94,9 +94,9 @@ module _ (slots : List Slot) (n : ℕ) (d : Detector) (long : n < length slots) 
         few = omega arith;
         all-in = each-or-new (λ i. inAt more i ≡ true) (λ i b. rw (before i b) (g .all-in i b)) (rw at-end ok);
         apart =
-        each-or-new (λ i. (j : ℕ) → j < i → otherAt more (detectorAt more i) j ≡ true)
-        (λ i b j l. rw (before i b, before j (omega arith)) (g .apart i b j l))
-        (λ j l. rw (at-end, before j l) (all-each (otherAt slots d) n new j l))
+            each-or-new (λ i. (j : ℕ) → j < i → otherAt more (detectorAt more i) j ≡ true)
+            (λ i b j l. rw (before i b, before j (omega arith)) (g .apart i b j l))
+            (λ j l. rw (at-end, before j l) (all-each (otherAt slots d) n new j l));
       }
 
 -- a property of the set after `unless`, by which way it went
@@ -114,12 +114,12 @@ unfolding putOf
 put-held s d h ok =
     by-test Held (allTo (otherAt (s .slots) d) (s .count)) _ _ h
     (λ new. by-test Held (ltb (s .count) places) (left 15 s) _ h
-      (λ room.
-        let r : s .count < places = ltb-true _ _ room in
-        record {
-          ok = in-set _ (added-in (s .slots) (s .count) d (omega (arith, h .long)) (set-in s (h .ok)) r ok new);
-          long = length-set (s .slots) (s .count) (record { detector = d }) ∙ h .long
-        }))
+    (λ room.
+    let r : s .count < places = ltb-true _ _ room in
+    record {
+      ok = in-set _ (added-in (s .slots) (s .count) d (omega (arith, h .long)) (set-in s (h .ok)) r ok new);
+      long = length-set (s .slots) (s .count) (record { detector = d }) ∙ h .long;
+    }))
 
 pub add-held : (s : Detectors) (c : DetectorConfig) → Held s → Held (addOf s c .set)
 unfolding addOf
@@ -160,7 +160,7 @@ module _ (w : CsiWindow) (means : List Float) (slots : List Slot) (store : List 
       record {
         few = g .few;
         all-in = λ i b. in-stays i b (g .all-in i b);
-        apart = λ i b j l. rw (kind-stays j (omega arith), kind-stays i b) (g .apart i b j l)
+        apart = λ i b j l. rw (kind-stays j (omega arith), kind-stays i b) (g .apart i b j l);
       }
 
 pub heard-held : (s : Detectors) (w : CsiWindow) (means store : List Float) → Held s → length means ≤ part
@@ -169,7 +169,7 @@ heard-held s w means store h few =
     let g = set-in s (h .ok) in
     record {
       ok = in-set _ (heard-in w means (s .slots) store (s .count) few (omega (arith, g .few, h .long)) g);
-      long = as-many (stepOf w means) (s .slots) store (s .count) ∙ h .long
+      long = as-many (stepOf w means) (s .slots) store (s .count) ∙ h .long;
     }
 
 -- the store keeps its length

@@ -50,7 +50,7 @@ one step w first d i g xs ys s p q x y at e a b c ex f ey h =
     let bt : q ≡ pushed w first (pushed w first (g .batch) (toldOf (s .first))) (toldOf (s .second)) = rw (h, f, ex, ey) in
     let sp : stepped s ys ≡ step d (partOf (placeOf i) xs) = c ∙ ap (step d) (part-is at e b xs ∙ ap (λ (k : ℕ). partOf k xs) a) in
     let first-half : record { slots = set (g .slots) i (record { detector = s .detector }); batch = q; store = putMid at (e - at) xs ys } ≡ roundWith w first (stepped s ys) i (round g xs)
-          = λ t. record { slots = set (g .slots) i (record { detector = s .detector }); batch = bt t; store = st t } in
+    = λ t. record { slots = set (g .slots) i (record { detector = s .detector }); batch = bt t; store = st t } in
     first-half ∙ ap (λ (z : Step). roundWith w first z i (round g xs)) sp
 
 -- ---- the loop
@@ -83,8 +83,8 @@ module _ (step : Stepping) (w : CsiWindow) (first : ℕ) (slots : List Slot) (st
   with-step : (s : Step) (i : ℕ) (h : Heard) → roundWith w first s i (as-round h) ≡ as-round (heardWith s i h)
   with-step s i h =
       let b : pushed w first (pushed w first (batchOf (numbered w first (h .said))) (toldOf (s .first))) (toldOf (s .second)) ≡ batchOf (numbered w first (h .said ++ (heard (s .first) ++ heard (s .second))))
-            = ap (λ (x : Batch). pushed w first x (toldOf (s .second))) (pushed-is w first (h .said) (toldOf (s .first))) ∙ pushed-is w first (h .said ++ heard (s .first)) (toldOf (s .second))
-              ∙ ap (λ (l : List Note). batchOf (numbered w first l)) (append-assoc (h .said) (heard (s .first)) (heard (s .second))) in
+      = ap (λ (x : Batch). pushed w first x (toldOf (s .second))) (pushed-is w first (h .said) (toldOf (s .first))) ∙ pushed-is w first (h .said ++ heard (s .first)) (toldOf (s .second))
+      ∙ ap (λ (l : List Note). batchOf (numbered w first l)) (append-assoc (h .said) (heard (s .first)) (heard (s .second))) in
       λ t. record { slots = set (h .slots) i (record { detector = s .detector }); batch = b t; store = withPart (placeOf i) (h .store) (s .baseline) }
 
   pub hears : (n : ℕ) → judgeTo step w first slots store n ≡ as-round (hearTo step slots store n)
@@ -154,7 +154,7 @@ module _ (ids : Ids) (s : Detectors) (w : CsiWindow) (means store : List Float) 
   unfolding judgeOf
   judged e g l h = rw (sym is-v ∙ ap paper e)
       (ap (λ (r : Round). record { number = 0; ids = record { window = ids .window; event = ids .event + r .batch .count }; set = record { slots = r .slots; count = s .count }; batch = r .batch; store = r .store })
-        (h ∙ hears (stepOf w means) w (ids .event) (s .slots) store (s .count)))
+      (h ∙ hears (stepOf w means) w (ids .event) (s .slots) store (s .count)))
 
 pub few-events : (step : Stepping) (w : CsiWindow) (first : ℕ) (slots : List Slot) (store l : List Float) (n : ℕ) (g : Code.Round) → round g l ≡ judgeTo step w first slots store n → g .batch .count ≤ most
 few-events step w first slots store l n g h =

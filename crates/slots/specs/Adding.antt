@@ -26,8 +26,8 @@ abbrev pub unused : Slot
 unused =
     record {
       detector =
-      Presence (record { «on_threshold» = zero32; «off_threshold» = zero32; «enter_windows» = 0; «exit_windows» = 0 })
-      presenceFresh
+          Presence (record { «on_threshold» = zero32; «off_threshold» = zero32; «enter_windows» = 0; «exit_windows» = 0 })
+          presenceFresh;
     }
 
 unfoldable pub noDetectors : Detectors

@@ -46,8 +46,13 @@ heard j = noteOf (toldOf j)
 abbrev pub eventOf : CsiWindow → ℕ → Note → CsiEvent
 eventOf w n t =
     record {
-      «event_id» = n; kind = t .kind; «session_id» = w .«session_id»; «source_id» = w .«source_id»; «timestamp_ns» = w .«end_ns»;
-      confidence = t .confidence; «window_id» = w .«window_id»
+      «event_id» = n;
+      kind = t .kind;
+      «session_id» = w .«session_id»;
+      «source_id» = w .«source_id»;
+      «timestamp_ns» = w .«end_ns»;
+      confidence = t .confidence;
+      «window_id» = w .«window_id»;
     }
 
 -- events numbered from n
@@ -59,8 +64,13 @@ numbered w n (t ∷ ts) = eventOf w n t ∷ numbered w (n + 1) ts
 abbrev pub none : CsiEvent
 none =
     record {
-      «event_id» = 0; kind = kind.PresenceStarted; «session_id» = 0; «source_id» = 0; «timestamp_ns» = 0; confidence = zero32;
-      «window_id» = 0
+      «event_id» = 0;
+      kind = kind.PresenceStarted;
+      «session_id» = 0;
+      «source_id» = 0;
+      «timestamp_ns» = 0;
+      confidence = zero32;
+      «window_id» = 0;
     }
 
 -- k places: the events of the list, then empty ones

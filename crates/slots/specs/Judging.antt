@@ -36,7 +36,7 @@ heardWith s i h =
     record {
       slots = set (h .slots) i (record { detector = s .detector });
       said = h .said ++ (heard (s .first) ++ heard (s .second));
-      store = withPart (placeOf i) (h .store) (s .baseline)
+      store = withPart (placeOf i) (h .store) (s .baseline);
     }
 
 abbrev pub Stepping : Type 0
@@ -92,7 +92,7 @@ done i count w h =
       ids = record { window = i .window; event = i .event + b .count };
       set = record { slots = h .slots; count = count };
       batch = b;
-      store = h .store
+      store = h .store;
     }
 
 -- reply 0 where the verdict is 0
@@ -115,7 +115,7 @@ roundWith w first s i r =
     record {
       slots = set (r .slots) i (record { detector = s .detector });
       batch = pushed w first (pushed w first (r .batch) (toldOf (s .first))) (toldOf (s .second));
-      store = withPart (placeOf i) (r .store) (s .baseline)
+      store = withPart (placeOf i) (r .store) (s .baseline);
     }
 
 abbrev pub oneOf : Stepping → CsiWindow → ℕ → Detector → ℕ → Round → Round

@@ -68,7 +68,10 @@ byQuality c m l = record { detector = Quality c (m .state); first = m .first; se
 abbrev pub byDrift : BaselineDriftConfig → Drifted → Step
 byDrift c m =
     record {
-      detector = Drift c (m .moved .state); first = m .moved .first; second = m .moved .second; baseline = m .store
+      detector = Drift c (m .moved .state);
+      first = m .moved .first;
+      second = m .moved .second;
+      baseline = m .store;
     }
 
 -- presence goes by the window's score, motion by its energy, quality by its quality, drift by the mean list
@@ -102,8 +105,8 @@ abbrev pub blank : Slot
 blank =
     record {
       detector =
-      Presence (record { «on_threshold» = nan; «off_threshold» = nan; «enter_windows» = 0; «exit_windows» = 0 })
-      (record { present = false; streak = 0 })
+          Presence (record { «on_threshold» = nan; «off_threshold» = nan; «enter_windows» = 0; «exit_windows» = 0 })
+          (record { present = false; streak = 0 });
     }
 
 abbrev pub detectorAt : List Slot → ℕ → Detector

@@ -10,7 +10,6 @@ ghost use Rattle.slots.specs.Slots.{detectorIn, kindNumber, detectorAt, 
 ghost use Rattle.slots.specs.Adding.{noDetectors, configAccepted, madeOf, adding, addOf, putOf};
 ghost use Rattle.slots.specs.Batches.{toldOf, nothing, pushed, Numbers};
 ghost use Rattle.slots.specs.Judging.{round, oneOf, judgeTo, AllReady, paper, verdictOf, outcome, judgeOf};
-
 use detectors::Judgement;
 use detectors::motion::MotionConfig;
 use detectors::motion::MotionState;
@@ -27,10 +26,12 @@ use rvcsi_core::window::CsiWindow;
 
 // How many detectors a set holds, and how many events a batch.
 pub const PLACES: usize = 4;
+
 pub const MOST: usize = 6;
 
 // How many values a baseline has at most, and how many the lent store must have.
 pub const PART: usize = 256;
+
 pub const ROOM: usize = 256;
 
 // The last event number that leaves room for a batch: 2^64 - 7.
@@ -223,10 +224,7 @@ pub fn detector_kinds(set: Detectors) -> Kinds
     for i in 0..n {
         numbers[i] = kind_number(detector_at(slots, i));
     }
-    Kinds {
-        numbers,
-        count: n,
-    }
+    Kinds { numbers, count: n }
 }
 
 // ---- adding
@@ -301,7 +299,9 @@ pub fn no_detectors() -> Detectors
         present: false,
         streak: 0,
     };
-    let slot = Slot { detector: Detector::Presence(c, s) };
+    let slot = Slot {
+        detector: Detector::Presence(c, s),
+    };
     Detectors {
         slots: [slot; PLACES],
         count: 0,
@@ -491,10 +491,7 @@ fn judge_all(
     ensures { λ r. ⌜ round r (now («baseline_store» .exit)) ≡ judgeTo (stepOf w (now («mean_amplitude» .entry))) w first slots (now («baseline_store» .entry)) n ⌝ }
 {
     let batch = empty();
-    let mut g = Round {
-        slots,
-        batch,
-    };
+    let mut g = Round { slots, batch };
     for i in 0..n {
         let d = detector_at(slots, i);
         g = judge_one(g, i, d, w, first, mean_amplitude, baseline_store);
@@ -565,7 +562,14 @@ pub fn judge(
         Reply::Done => {
             let old = set.slots;
             let count = set.count;
-            let g = judge_all(old, count, window, ids.event, mean_amplitude, baseline_store);
+            let g = judge_all(
+                old,
+                count,
+                window,
+                ids.event,
+                mean_amplitude,
+                baseline_store,
+            );
             let slots = g.slots;
             let batch = g.batch;
             let event = ids.event + batch.count as u64;

@@ -20,7 +20,7 @@ judge-all-requires : tie.Need-judge-all-requires
 judge-all-requires c κs = law.all-ready _ _ _ _ _ (c .before .before .before .before .judge-verdict .ensures) (c .before .before .enum-told .given .1)
 
 add-event : tie.Need-add-event
-add-event c = 
+add-event c =
     let r = law.all-ready _ _ _ _ _ (c .before .before .before .before .before .before .before .before .before .before .judge-verdict .ensures) (c .before .before .before .before .before .before .before .before .enum-told .given .1) in
     let k = law.few-events _ _ _ _ _ _ _ (c .before .before .before .before .before .judge-all .result) (c .before .before .before .before .before .judge-all .ensures) in
     omega (arith, r .numbers, k)

@@ -49,7 +49,7 @@ same-length : tie.Need-same-length
 same-length c = search needs
 
 returns : tie.Need-returns
-returns c = 
+returns c =
     law.one (stepOf (c .before .before .before .before .before .before .before .before .before .before .before .before .args .w) (now (c .before .before .before .before .before .before .before .before .before .before .before .before .args .mean-amplitude))) (c .before .before .before .before .before .before .before .before .before .before .before .before .args .w) (c .before .before .before .before .before .before .before .before .before .before .before .before .args .first) (c .before .before .before .before .before .before .before .before .before .before .before .before .args .d) (c .before .before .before .before .before .before .before .before .before .before .before .before .args .i) (c .before .before .before .before .before .before .before .before .before .before .before .before .args .g) _ _
     (c .before .before .before .before .before .before .before .step .result) _ _ _ _ _ _ (c .before .before .before .before .before .before .before .before .before .place-of .ensures) refl (c .before .before .before .before .before .before .before .step .ensures) (c .before .before .before .tell .ensures) (c .before .before .push .ensures) (c .before .tell2 .ensures) (c .push2 .ensures)
 
