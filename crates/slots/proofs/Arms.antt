@@ -1,8 +1,7 @@
 -- A detector taken apart: what each arm of the code needs, and makes. Assumes nothing.
-use mathlib.Core.Path.{_≡_, sym, ap, _∙_}
+use mathlib.Core.Path.{_≡_, ap}
 use mathlib.Core.List.{List}
 use Prim.Native.Nat.{ℕ, _<_, _≤_, max}
-use lib.ListN.{length}
 use lib.Ieee.{Float}
 use Rattle.rvcsi_core.specs.declared.window.CsiWindow.{CsiWindow}
 use Rattle.detectors.specs.declared.presence.PresenceConfig.{PresenceConfig}
@@ -25,7 +24,7 @@ use Rattle.detectors.proofs.Ranges.{presence-below, motion-below, quality-withi
 use Rattle.drift.proofs.Steps.{driving}
 use Rattle.slots.specs.declared.Detector.{Detector}
 use Rattle.slots.specs.declared.Detector.the-variants.{Presence, Motion, Quality, Drift}
-use Rattle.slots.specs.Slots.{Step, byPresence, byMotion, byQuality, byDrift, stepOf, Ready}
+use Rattle.slots.specs.Slots.{byPresence, byMotion, byQuality, byDrift, stepOf, Ready}
 
 module _ {d : Detector} {n m : ℕ} (r : Ready d n m) where
   pub presence-ready : (c : PresenceConfig) (s : PresenceState) → d ≡ Presence c s → s .streak < for (s .present) (c .«enter_windows») (c .«exit_windows»)

@@ -1,13 +1,12 @@
 -- Reply 0 is owed: a fresh set is in range, adding and judging leave it in range, and a set in range is judged. Assumes nothing.
 use mathlib.Core.Path.{_≡_, refl, sym, ap, subst, _∙_}
-use mathlib.Core.Bool.{Bool, true, false, not, _&&_, cond}
-use mathlib.Core.List.{List, _++_}
+use mathlib.Core.Bool.{Bool, true, false, _&&_, cond}
+use mathlib.Core.List.{List}
 use Prim.Native.Nat.{ℕ, zero, suc, _+_, _≤_, _<_}
-use native.Mathlib.Numerals.{add-one}
 use native.Mathlib.Omega.{arith}
-use borrow.Author.Tests.{le-leb, lt-ltb, leb-true, ltb-true}
+use borrow.Author.Tests.{le-leb, leb-true, ltb-true}
 use lib.Dec.{T, leb, ltb, eqb, eqb→eq}
-use lib.ListN.{length, set, take, drop, length-set, length-append, length-take, length-drop}
+use lib.ListN.{length, set, length-set, length-append, length-take, length-drop}
 use lib.Seq.{getD-set-same, getD-set-other}
 use lib.Ieee.{Float}
 use Rattle.lists.specs.All.{allTo}
@@ -24,9 +23,9 @@ use Rattle.slots.specs.declared.DetectorConfig.{DetectorConfig}
 use Rattle.slots.specs.declared.DetectorConfig.the-variants as given
 use Rattle.slots.specs.declared.Detectors.{Detectors}
 use Rattle.slots.specs.declared.Slot.{Slot}
-use Rattle.slots.specs.Slots.{detectorIn, kindNumber, Step, stepOf, placeOf, partOf, withPart, detectorAt, inAt, otherAt, freshAt, setOk, blank}
+use Rattle.slots.specs.Slots.{detectorIn, kindNumber, stepOf, placeOf, partOf, withPart, detectorAt, inAt, otherAt, freshAt, setOk, blank}
 use Rattle.slots.specs.Adding.{noDetectors, configAccepted, madeOf, Adding, unless, left, putOf, addOf}
-use Rattle.slots.specs.Judging.{Heard, hearTo, verdictOf, Outcome, done, refusedWith, judgeOf, AllReady}
+use Rattle.slots.specs.Judging.{hearTo, verdictOf, Outcome, done, refusedWith, judgeOf, AllReady}
 use Rattle.slots.specs.declared.Reply.the-variants.{Done}
 use Rattle.slots.proofs.Places.{as-many, its-own}
 use Rattle.slots.proofs.Rounds.{fine, all-ready}

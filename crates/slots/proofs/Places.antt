@@ -2,22 +2,21 @@
 use mathlib.Core.Path.{_≡_, refl, ap, _∙_}
 use mathlib.Core.Logic.{⊎-elim}
 use mathlib.Core.List.{List, [], _∷_}
-use Prim.Native.Nat.{ℕ, zero, suc, _+_, _≤_, _<_}
+use Prim.Native.Nat.{ℕ, zero, suc, _≤_, _<_}
 use native.Mathlib.Nat.{not-suc-le-zero, eq-or-lt-of-le, le-of-suc-le-suc}
 use native.Mathlib.Omega.{arith}
-use lib.ListN.{set, length, take, drop, length-set, length-append, length-take, length-drop}
+use lib.ListN.{length, length-set}
 use lib.Seq.{getD-set-same, getD-set-other}
 use lib.Ieee.{Float}
 use Rattle.rvcsi_core.specs.declared.window.CsiWindow.{CsiWindow}
 use Rattle.detectors.specs.declared.presence.PresenceConfig.{PresenceConfig}
 use Rattle.detectors.specs.declared.presence.PresenceState.{PresenceState}
 use Rattle.detectors.specs.Presence.{presenceFresh, presenceMove, presenceRun}
-use Rattle.slots.specs.Limits.{part}
 use Rattle.slots.specs.declared.Detector.{Detector}
 use Rattle.slots.specs.declared.Detector.the-variants.{Presence}
 use Rattle.slots.specs.declared.Slot.{Slot}
-use Rattle.slots.specs.Slots.{Step, stepOf, placeOf, partOf, withPart, detectorAt, blank}
-use Rattle.slots.specs.Judging.{Stepping, Heard, hearTo}
+use Rattle.slots.specs.Slots.{Step, stepOf, placeOf, partOf, detectorAt, blank}
+use Rattle.slots.specs.Judging.{Stepping, hearTo}
 use Rattle.slots.specs.Runs.{Turn, heardAll, scores}
 
 module _ (step : Stepping) (slots : List Slot) (store : List Float) where

@@ -16,7 +16,7 @@ use Rattle.slots.specs.Limits.{most}
 use Rattle.slots.specs.declared.Batch.{Batch}
 use Rattle.slots.specs.declared.Told.{Told}
 use Rattle.slots.specs.declared.Told.the-variants.{Nothing, Event}
-use Rattle.slots.specs.Batches.{Note, noteOf, eventOf, none, numbered, fill, batchOf, nothing, added, joined, pushed}
+use Rattle.slots.specs.Batches.{Note, noteOf, eventOf, none, numbered, fill, batchOf, nothing, added, pushed}
 
 -- ---- the code's push
 module _ (w : CsiWindow) (n : ℕ) (b : Batch) (t : Told) where

@@ -1,7 +1,7 @@
 -- The loop over the slots, and the whole of `judge`. Assumes nothing.
 use mathlib.Core.Path.{_≡_, refl, sym, ap, _∙_}
 use mathlib.Core.Bool.{Bool, true, false, _&&_}
-use mathlib.Core.List.{List, [], _++_, append-assoc}
+use mathlib.Core.List.{List, _++_, append-assoc}
 use Prim.Native.Nat.{ℕ, zero, suc, _+_, _-_, _≤_, _<_, min}
 use native.Mathlib.Numerals.{add-one}
 use native.Mathlib.Omega.{arith}
@@ -30,7 +30,7 @@ use Rattle.slots.specs.declared.Reply.{Reply}
 use Rattle.slots.specs.declared.Reply.the-variants.{Done, Refused}
 use Rattle.slots.specs.Slots.{Step, stepped, stepOf, placeOf, partOf, withPart, detectorAt, inAt, freshAt, setOk, kindAt, kindsOf, Ready}
 use Rattle.slots.specs.Batches.{Note, toldOf, heard, numbered, batchOf, nothing, pushed}
-use Rattle.slots.specs.Judging.{Stepping, Heard, heardWith, hearTo, unless, paper, verdictOf, Outcome, refusedWith, done, judgeOf, Round, round, roundWith, oneOf, judgeTo, AllReady}
+use Rattle.slots.specs.Judging.{Stepping, Heard, heardWith, hearTo, unless, paper, verdictOf, judgeOf, Round, round, roundWith, oneOf, judgeTo, AllReady}
 use Rattle.slots.proofs.Pushes.{nothing-is, pushed-is}
 
 -- ---- a part lent and back

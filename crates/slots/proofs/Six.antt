@@ -1,13 +1,12 @@
 -- A batch has room for all that different kinds say. Assumes nothing.
-use mathlib.Core.Path.{_≡_, refl, sym, ap, subst, _∙_}
+use mathlib.Core.Path.{_≡_, refl}
 use mathlib.Core.Bool.{Bool, true, false, not, _&&_}
-use mathlib.Core.List.{List, [], _∷_, _++_}
-use Prim.Native.Nat.{ℕ, zero, suc, _+_, _≤_, _<_}
+use mathlib.Core.List.{List, [], _++_}
+use Prim.Native.Nat.{ℕ, zero, suc, _+_, _≤_}
 use native.Mathlib.Omega.{arith}
 use lib.Dec.{eqb, leb}
 use lib.ListN.{length, length-append}
 use lib.Ieee.{Float}
-use borrow.Author.Tests.{leb-true}
 use Rattle.lists.specs.All.{allTo}
 use Rattle.lists.proofs.Tests.{and2}
 use Rattle.slots.specs.declared.Told.{Told}
@@ -18,9 +17,9 @@ use Rattle.slots.specs.declared.Detector.the-variants.{Presence, Motion,
 use Rattle.slots.specs.declared.Detectors.{Detectors}
 use Rattle.slots.specs.declared.Slot.{Slot}
 use Rattle.rvcsi_core.specs.declared.window.CsiWindow.{CsiWindow}
-use Rattle.slots.specs.Slots.{Step, stepOf, placeOf, partOf, detectorAt, kindNumber, otherAt, freshAt, inAt, setOk}
-use Rattle.slots.specs.Batches.{Note, toldOf, noteOf, heard}
-use Rattle.slots.specs.Judging.{Heard, hearTo}
+use Rattle.slots.specs.Slots.{stepOf, placeOf, partOf, detectorAt, kindNumber, freshAt, inAt, setOk}
+use Rattle.slots.specs.Batches.{toldOf, noteOf, heard}
+use Rattle.slots.specs.Judging.{hearTo}
 
 -- what a kind may say
 abbrev mostOf : Detector → ℕ

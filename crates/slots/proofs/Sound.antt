@@ -1,14 +1,13 @@
 -- Every event of a batch is valid. Assumes nothing.
 use mathlib.Core.Path.{_≡_, sym, subst}
-use mathlib.Core.Bool.{Bool, true, false, _&&_}
+use mathlib.Core.Bool.{true, _&&_}
 use mathlib.Core.List.{List, [], _∷_, _++_}
 use Prim.Native.Nat.{ℕ, zero, suc, _+_, _≤_, _<_}
 use native.Mathlib.Omega.{arith}
-use lib.Dec.{T, leb, ltb}
+use lib.Dec.{T, ltb}
 use lib.Ieee.{Float, binary32, fits, ofBits, le}
 use lib.ListN.{length}
 use Rattle.lists.proofs.Tests.{and2}
-use Rattle.floats.specs.Clamp.{zero32}
 use Rattle.rvcsi_core.specs.Score.{scoreOk}
 use Rattle.rvcsi_core.specs.Event.{eventValidityOf}
 use Rattle.rvcsi_core.specs.declared.window.CsiWindow.{CsiWindow}
@@ -24,14 +23,14 @@ use Rattle.detectors.proofs.Confidence.{presence-valid, motion-valid, quality-v
 use Rattle.drift.specs.Settings.{driftAccepted}
 use Rattle.drift.specs.Drift.{lengthOk, driftIn}
 use Rattle.drift.proofs.Confidence.{drift-valid}
-use Rattle.slots.specs.Limits.{most, part}
+use Rattle.slots.specs.Limits.{most}
 use Rattle.slots.specs.declared.Detector.{Detector}
 use Rattle.slots.specs.declared.Detector.the-variants.{Presence, Motion, Quality, Drift}
 use Rattle.slots.specs.declared.Slot.{Slot}
 use Rattle.slots.specs.declared.Detectors.{Detectors}
 use Rattle.slots.specs.Slots.{detectorIn, stepOf, placeOf, partOf, detectorAt, inAt}
 use Rattle.slots.specs.Batches.{Note, heard, eventOf, none, numbered, fill}
-use Rattle.slots.specs.Judging.{Heard, hearTo, Outcome, judgeOf}
+use Rattle.slots.specs.Judging.{hearTo, Outcome, judgeOf}
 use Rattle.slots.proofs.Places.{its-own}
 use Rattle.slots.proofs.Owed.{Held, set-in, by-reply}
 

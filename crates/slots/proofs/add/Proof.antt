@@ -1,9 +1,6 @@
-use native.Mathlib.Omega.{arith}
-use mathlib.Core.Path.{_≡_, refl, sym, _∙_, ap}
+use mathlib.Core.Path.{_∙_, ap}
 use Rattle.lists.proofs.Tests.{passed, failed}
-use borrow.Author.Tests.{lt-ltb, le-ltb}
-use Rattle.slots.specs.Adding.{configAccepted, madeOf, putOf, addOf}
-use Rattle.slots.specs.declared.Detector.{Detector}
+use Rattle.slots.specs.Adding.{putOf, addOf}
 use Rattle.slots.proofs.Rounds.{set-ready}
 use borrow.Author.Needs.{needs}
 use Rattle.slots.proofs.add.Statement.{statement}

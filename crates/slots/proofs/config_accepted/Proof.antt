@@ -1,8 +1,5 @@
-use native.Mathlib.Omega.{arith}
-use mathlib.Core.Path.{_≡_, refl, sym, _∙_, ap}
-use Rattle.lists.proofs.Tests.{passed, failed}
-use borrow.Author.Tests.{lt-ltb, le-ltb}
-use Rattle.slots.specs.Adding.{configAccepted, madeOf, putOf, addOf}
+use mathlib.Core.Path.{sym, _∙_, ap}
+use Rattle.slots.specs.Adding.{configAccepted}
 use borrow.Author.Needs.{needs}
 use Rattle.slots.proofs.config_accepted.Statement.{statement}
 use Rattle.slots.proofs.config_accepted.Tie as tie

@@ -1,6 +1,4 @@
-use native.Mathlib.Omega.{arith}
-use mathlib.Core.Path.{_≡_, refl, sym, _∙_, ap}
-use Rattle.lists.proofs.Tests.{passed, failed}
+use mathlib.Core.Path.{sym, _∙_, ap}
 use Rattle.slots.specs.Slots.{detectorIn}
 use borrow.Author.Needs.{needs}
 use Rattle.slots.proofs.detector_in.Statement.{statement}

@@ -1,9 +1,5 @@
 use borrow.Author.Needs.{needs}
 use native.Mathlib.Omega.{arith}
-use mathlib.Core.Path.{_≡_, refl, sym, _∙_, ap}
-use Rattle.lists.proofs.Tests.{passed, failed}
-use Rattle.slots.proofs.Arms as arm
-use Rattle.slots.proofs.Pushes as batch
 use Rattle.slots.proofs.Rounds as law
 use Prim.Native.Nat.{_≤_, _-_}
 use Rattle.slots.specs.Slots.{stepOf}

@@ -1,8 +1,5 @@
-use native.Mathlib.Omega.{arith}
-use mathlib.Core.Path.{_≡_, refl, sym, _∙_, ap}
-use Rattle.lists.proofs.Tests.{passed, failed}
-use borrow.Author.Tests.{lt-ltb, le-ltb}
-use Rattle.slots.specs.Adding.{madeOf, putOf, addOf}
+use mathlib.Core.Path.{sym, ap}
+use Rattle.slots.specs.Adding.{madeOf}
 use borrow.Author.Needs.{needs}
 use Rattle.slots.proofs.made.Statement.{statement}
 use Rattle.slots.proofs.made.Tie as tie

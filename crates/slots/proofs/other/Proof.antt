@@ -1,6 +1,3 @@
-use native.Mathlib.Omega.{arith}
-use mathlib.Core.Path.{_≡_, refl, sym, _∙_, ap}
-use Rattle.lists.proofs.Tests.{passed, failed}
 use borrow.Author.Needs.{needs}
 use Rattle.slots.proofs.other.Statement.{statement}
 use Rattle.slots.proofs.other.Tie as tie

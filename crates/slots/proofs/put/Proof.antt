@@ -1,8 +1,6 @@
-use native.Mathlib.Omega.{arith}
-use mathlib.Core.Path.{_≡_, refl, sym, _∙_, ap}
 use Rattle.lists.proofs.Tests.{passed, failed}
 use borrow.Author.Tests.{lt-ltb, le-ltb}
-use Rattle.slots.specs.Adding.{configAccepted, madeOf, putOf, addOf}
+use Rattle.slots.specs.Adding.{putOf}
 use Rattle.slots.specs.Limits.{places}
 use borrow.Author.Needs.{needs}
 use Rattle.slots.proofs.put.Statement.{statement}

@@ -1,6 +1,3 @@
-use native.Mathlib.Omega.{arith}
-use mathlib.Core.Path.{_≡_, refl, sym, _∙_, ap}
-use Rattle.lists.proofs.Tests.{passed, failed}
 use borrow.Author.Tests.{le-leb, lt-leb}
 use Rattle.slots.specs.Slots.{setOk}
 use Rattle.slots.specs.Limits.{places}

@@ -1,9 +1,4 @@
-use native.Mathlib.Omega.{arith}
-use mathlib.Core.Path.{_≡_, refl, sym, _∙_, ap}
-use Rattle.lists.proofs.Tests.{passed, failed}
 use Rattle.slots.proofs.Arms as arm
-use Rattle.slots.proofs.Pushes as batch
-use Rattle.slots.proofs.Rounds as law
 use borrow.Author.Needs.{needs}
 use Rattle.slots.proofs.step.Statement.{statement}
 use Rattle.slots.proofs.step.Tie as tie
