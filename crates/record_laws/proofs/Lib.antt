@@ -1,0 +1,10 @@
+pub mod Numbers
+pub mod Fields
+pub mod Rows
+pub mod Whole
+pub mod ReadingWritten
+pub mod WritingRead
+pub mod Moved
+pub mod MoreBehind
+pub mod Longest
+pub mod Example

@@ -1,0 +1,11 @@
+pub mod Contradiction
+pub mod Groups
+pub mod ReadingNumbers
+pub mod WritingNumbers
+pub mod Runs
+pub mod Floats
+pub mod Body
+pub mod Heads
+pub mod Steps
+pub mod Answers
+pub mod Chain
