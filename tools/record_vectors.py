@@ -179,14 +179,14 @@ def main():
         r = made(n, m)
         for room in (len(record(r)), len(record(r)) - 1):
             writing(OUTPUT, r, 0, room)
-    # wrong counts and lists, also with an output that is short
+    # wrong counts and lists, also with an output that is short, or that ends before the place
     for _ in range(60):
         r = list(made(rnd.randint(0, 3), rnd.randint(0, 2)))
         for place, value in ((4, r[4] + 1), (5, r[5] + 1), (4, 257), (5, 257), (4, 2**64 - 1), (5, 2**63), (7, r[7] + [1]), (8, r[8] + [1]), (9, r[9] + [1])):
             w = list(r)
             w[place] = value
-            for room in (400, 3):
-                writing(WRONG, tuple(w), 0, room)
+            for at, room in ((0, 400), (0, 3), (5, 3)):
+                writing(WRONG, tuple(w), at, room)
     for n in (256, 257):
         r = list(made(256, 1))
         r[4], r[7], r[8] = n, r[7] + [5] * (n - 256), r[8] + [6] * (n - 256)

@@ -1,21 +1,22 @@
 -- No judgement carries a NaN, whatever the score, and every confidence is from 0 to 1: so every event is valid. Assumes nothing.
-use mathlib.Core.Path.{_≡_, sym, subst}
-use mathlib.Core.Bool.{Bool, true, false, not, _&&_, cond}
+use mathlib.Core.Path.{_≡_, refl, sym, subst}
+use mathlib.Core.Bool.{Bool, true, false, not, _&&_, _||_, cond}
 use Prim.Native.Nat.{ℕ, zero, suc, _+_, _*_, _%_, _^_, _<_, _≤_, min}
 use native.Mathlib.Omega.{arith}
 use native.Mathlib.Nat.{mul-pos, mul-le-mul, zero-mul}
 use borrow.Author.Tests.{ne-eqb}
 use lib.IntN.{ℤ, negsuc}
 use lib.Dec.{T, leb, ltb, eqb, leb→le, lt→ltb}
-use lib.Ieee.{Float, nan, inf, fin, Format, binary32, ofBits, le, lt, isNan, fits, neg, add, sub, mul, div, round, up, down, unlike}
+use lib.Ieee.{Float, nan, inf, fin, Format, binary32, ofBits, le, lt, isNan, fits, neg, add, sub, mul, div, round, up, down}
 use lib.Ieee.Fits.{and-l, and-r, up-pos}
 use lib.Ieee.Positive.{positive, cross→le, between, mul-mono}
 use lib.Ieee.Scale.{finite}
 use Rattle.floats.specs.Clamp.{zero32, one32, clampOf}
 use Rattle.floats.proofs.Order as order
-use Rattle.floats.proofs.Exact.{add-number}
-use Rattle.floats.proofs.Grid.{round-is-number}
+use Rattle.floats.proofs.Exact.{add-number, some, div-number}
+use Rattle.floats.proofs.Numbers.{not-false}
 use Rattle.rvcsi_core.specs.Score.{scoreOk}
+use Rattle.rvcsi_core.specs.Settings.{million}
 use Rattle.rvcsi_core.proofs.Valid.{clamped-score, score-range, event-valid}
 use Rattle.rvcsi_core.specs.Event.{eventValidityOf}
 use Rattle.rvcsi_core.specs.declared.event.CsiEvent.{CsiEvent}
@@ -26,7 +27,7 @@ use Rattle.detectors.specs.declared.motion.MotionConfig.{MotionConfig}
 use Rattle.detectors.specs.declared.motion.MotionState.{MotionState}
 use Rattle.detectors.specs.declared.quality.QualityConfig.{QualityConfig}
 use Rattle.detectors.specs.declared.quality.QualityState.{QualityState}
-use Rattle.detectors.specs.Common.{two32, million, overTwice}
+use Rattle.detectors.specs.Common.{two32, overTwice}
 use Rattle.detectors.specs.Answers.{Kind, Said, said, event, Valid}
 use Rattle.detectors.specs.Hysteresis.{Turn, still, rose, fell, for, moved, move}
 use Rattle.detectors.specs.Presence.{presenceSaid, presenceMove}
@@ -36,43 +37,38 @@ use Rattle.detectors.proofs.Accepted.{motion-settings}
 
 -- ---- what is compared is a number
 pub le-numbers : (x y : Float) → T (le x y) → T (not (isNan x)) × T (not (isNan y))
-unfolding isNan le
-le-numbers nan y h = absurd h
-le-numbers (inf s) nan h = absurd h
-le-numbers (inf s) (inf t) h = (tt, tt)
-le-numbers (inf s) (fin t n d) h = (tt, tt)
-le-numbers (fin s m e) nan h = absurd h
-le-numbers (fin s m e) (inf t) h = (tt, tt)
-le-numbers (fin s m e) (fin t n d) h = (tt, tt)
+le-numbers x y h = let n = order.not-nan x y h in (not-false (isNan x) (n .0), not-false (isNan y) (n .1))
 
 -- ---- differences and quotients that are numbers
-not-nan : (x : Float) → isNan x ≡ false → T (not (isNan x))
-not-nan x e = rw e tt
-
 sub-number : (f : Format) (x y : Float) → T (finite x) → T (not (isNan y)) → T (not (isNan (sub f x y)))
 unfolding sub add neg isNan
 sub-number f nan y p q = absurd p
 sub-number f (inf s) y p q = absurd p
 sub-number f (fin s m e) nan p q = absurd q
 sub-number f (fin s m e) (inf t) p q = tt
-sub-number f (fin s m e) (fin t n d) p q = not-nan (add f (fin s m e) (fin (not t) n d)) (add-number f (fin s m e) (fin (not t) n d) tt tt)
+sub-number f (fin s m e) (fin t n d) p q = not-false (isNan (add f (fin s m e) (fin (not t) n d))) (add-number f (fin s m e) (fin (not t) n d) tt tt)
 
 pub one-less : (y : Float) → T (not (isNan y)) → T (not (isNan (sub binary32 one32 y)))
 unfolding ofBits
 one-less y q = sub-number binary32 one32 y tt q
 
-pub div-number : (f : Format) (x y : Float) → T (not (isNan x)) → T (positive y) → T (not (isNan (div f x y)))
-unfolding div isNan
-div-number f nan y p q = absurd p
-div-number f (inf s) nan p q = absurd q
-div-number f (inf s) (inf t) p q = absurd q
-div-number f (inf s) (fin t n d) p q = tt
-div-number f (fin s m e) nan p q = absurd q
-div-number f (fin s m e) (inf t) p q = absurd q
-div-number f (fin s m e) (fin true n d) p q = absurd q
-div-number f (fin s m e) (fin false zero d) p q = absurd q
-div-number f (fin s m e) (fin false (suc n) d) p q =
-    rw (ne-eqb (suc n) 0 (λ e. omega (arith, e))) (not-nan (round f (unlike s false) (m * up e * down d) (suc n * up d * down e)) (round-is-number f (unlike s false) (m * up e * down d) (suc n * up d * down e)))
+over-positive : (f : Format) (x y : Float) → T (not (isNan x)) → T (positive y) → T (not (isNan (div f x y)))
+over-positive f x y p q = let s = positive-some y q in not-false (isNan (div f x y)) (div-number f x y (not-false-is (isNan x) p) (s .0) (some-right (some x) (some y) (s .1)))
+  where
+    positive-some : (y : Float) → T (positive y) → T (finite y) × T (some y)
+    positive-some nan q = absurd q
+    positive-some (inf t) q = absurd q
+    positive-some (fin true n d) q = absurd q
+    positive-some (fin false zero d) q = absurd q
+    positive-some (fin false (suc n) d) q = (tt, rw (ne-eqb (suc n) 0 (λ e. omega (arith, e))) tt)
+
+    not-false-is : (b : Bool) → T (not b) → b ≡ false
+    not-false-is true t = absurd t
+    not-false-is false t = refl
+
+    some-right : (a b : Bool) → T b → T (a || b)
+    some-right true b t = tt
+    some-right false b t = t
 
 -- ---- twice an accepted threshold above another is finite and above 0
 pub positive-on : (on off : Float) → T (le zero32 off) → T (lt off on) → T (le on million) → T (positive on)
@@ -116,7 +112,7 @@ twice-positive on off t z l m =
 
 pub over-twice-number : (x on off : Float) → T (not (isNan x)) → T (fits binary32 on) → T (le zero32 off) → T (lt off on) → T (le on million) → T (scoreOk (overTwice x on))
 unfolding overTwice
-over-twice-number x on off n t z l m = clamped-score (div binary32 x (mul binary32 two32 on)) (div-number binary32 x (mul binary32 two32 on) n (twice-positive on off t z l m))
+over-twice-number x on off n t z l m = clamped-score (div binary32 x (mul binary32 two32 on)) (over-positive binary32 x (mul binary32 two32 on) n (twice-positive on off t z l m))
 
 -- ---- a switch speaks only of windows that met a limit
 turn-valid : (says : Turn → Said) (b hi lo full : Bool) (k : ℕ) → Valid (says still) → (T hi → Valid (says rose)) → (T lo → Valid (says fell)) → Valid (says (moved b (for b hi lo) full k .turn))

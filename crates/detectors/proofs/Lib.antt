@@ -7,7 +7,5 @@ pub mod QualityHistory
 pub mod Monotone
 pub mod Confidence
 pub mod Agree
-pub mod Examples
-pub mod Tests
 pub mod Switch
 pub mod Turned

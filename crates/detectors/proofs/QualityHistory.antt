@@ -9,6 +9,7 @@ use borrow.Author.Tests.{le-leb, lt-leb, eq-eqb, ne-eqb, leb-true, leb-false, eq
 use lib.Dec.{leb, eqb}
 use lib.Ieee.{Float, binary32, lt, sub}
 use Rattle.floats.specs.Clamp.{one32, clampOf}
+use Rattle.rvcsi_core.proofs.Tested.{known}
 use Rattle.detectors.specs.declared.Judgement.{Judgement}
 use Rattle.detectors.specs.declared.quality.QualityConfig.{QualityConfig}
 use Rattle.detectors.specs.declared.quality.QualityState.{QualityState}
@@ -19,15 +20,10 @@ use Rattle.detectors.specs.History.{lows, one, times}
 use Rattle.detectors.proofs.Accepted.{quality-settings}
 use Rattle.detectors.proofs.Ranges.{quality-begins, quality-stays}
 
--- a test's value with its equation
-case : {X : Type 0} (b : Bool) → (b ≡ true → X) → (b ≡ false → X) → X
-case true f g = f refl
-case false f g = g refl
-
 -- ---- one count of at least 1, at most `most`: n low windows came before this one
 module _ (count most n : ℕ) (some : 0 < count) (fits : count ≤ most) where
   mark : (leb count n || leb count (min (n + 1) most)) ≡ leb count (n + 1)
-  mark = case (leb count n)
+  mark = known (leb count n)
       (λ e. rw e (sym (le-leb count (n + 1) (omega (arith, leb-true count n e)))))
       (λ e. rw e (same (leb count (n + 1)) refl))
     where
@@ -36,7 +32,7 @@ module _ (count most n : ℕ) (some : 0 < count) (fits : count ≤ most) where
       same false e = rw e (lt-leb count (min (n + 1) most) (omega (arith, leb-false count (n + 1) e)))
 
   due : (not (leb count n) && leb count (min (n + 1) most)) ≡ eqb (n + 1) count
-  due = case (leb count n)
+  due = known (leb count n)
       (λ e. rw e (sym (ne-eqb (n + 1) count (λ g. omega (arith, leb-true count n e, g)))))
       (λ e. rw e (same (leb count (n + 1)) refl (leb-false count n e)))
     where

@@ -1,9 +1,9 @@
--- A state in range: its streak is below its count, so a window can be taken; and after any window it is in range again. Assumes nothing.
+-- The fresh state is in range, and after any window a state in range is so again. Assumes nothing.
 use mathlib.Core.Path.{_≡_, refl, sym, subst}
 use mathlib.Core.Bool.{Bool, true, false, not, cond}
-use Prim.Native.Nat.{ℕ, _+_, _<_, _≤_, min}
+use Prim.Native.Nat.{ℕ, _+_, _<_, min}
 use native.Mathlib.Omega.{arith}
-use borrow.Author.Tests.{le-leb, lt-ltb, leb-true, leb-false, ltb-true}
+use borrow.Author.Tests.{le-leb, lt-ltb, leb-false}
 use lib.Dec.{leb, ltb}
 use lib.Ieee.{Float, binary32, le, lt, sub}
 use Rattle.floats.specs.Clamp.{one32, clampOf}
@@ -17,7 +17,8 @@ use Rattle.detectors.specs.Hysteresis.{for, moved, move}
 use Rattle.detectors.specs.Presence.{presenceAccepted, presenceIn, presenceMove, presenceFresh}
 use Rattle.detectors.specs.Motion.{motionAccepted, motionIn, motionMove, motionFresh}
 use Rattle.detectors.specs.Quality.{qualityAccepted, qualityIn, qualityMove, qualityFresh, top, low, good}
-use Rattle.detectors.proofs.Tests.{split, join}
+use Rattle.lists.proofs.Tests.{and2}
+use Rattle.rvcsi_core.proofs.Tested.{join}
 use Rattle.detectors.proofs.Turned.{for-same}
 use Rattle.detectors.proofs.Accepted.{presence-settings, motion-settings}
 
@@ -35,10 +36,7 @@ module _ (enter exit : ℕ) (some : (b : Bool) → 0 < for b enter exit) where
 module _ (c : PresenceConfig) (s : PresenceState) (h : presenceIn c s ≡ true) where
   parts : (presenceAccepted c ≡ true) × (ltb (s .streak) (for (s .present) (c .«enter_windows») (c .«exit_windows»)) ≡ true)
   unfolding presenceIn
-  parts = split (presenceAccepted c) (ltb (s .streak) (for (s .present) (c .«enter_windows») (c .«exit_windows»))) h
-
-  pub presence-below : s .streak < for (s .present) (c .«enter_windows») (c .«exit_windows»)
-  presence-below = ltb-true _ _ (parts .1)
+  parts = and2 (presenceAccepted c) (ltb (s .streak) (for (s .present) (c .«enter_windows») (c .«exit_windows»))) h
 
   pub presence-stays : (p : Float) → presenceIn c (presenceMove c s p .state) ≡ true
   unfolding presenceIn presenceMove move
@@ -54,10 +52,7 @@ presence-begins c h = join _ _ h (lt-ltb _ _ (presence-settings c h .some false)
 module _ (c : MotionConfig) (s : MotionState) (h : motionIn c s ≡ true) where
   motion-parts : (motionAccepted c ≡ true) × (ltb (s .streak) (c .«debounce_windows») ≡ true)
   unfolding motionIn
-  motion-parts = split (motionAccepted c) (ltb (s .streak) (c .«debounce_windows»)) h
-
-  pub motion-below : s .streak < c .«debounce_windows»
-  motion-below = ltb-true _ _ (motion-parts .1)
+  motion-parts = and2 (motionAccepted c) (ltb (s .streak) (c .«debounce_windows»)) h
 
   pub motion-stays : (m : Float) → motionIn c (motionMove c s m .state) ≡ true
   unfolding motionIn motionMove move
@@ -79,10 +74,7 @@ held c s x false = le-leb 0 (top c) (omega arith)
 module _ (c : QualityConfig) (s : QualityState) (h : qualityIn c s ≡ true) where
   quality-parts : (qualityAccepted c ≡ true) × (leb (s .«low_streak») (top c) ≡ true)
   unfolding qualityIn
-  quality-parts = split (qualityAccepted c) (leb (s .«low_streak») (top c)) h
-
-  pub quality-within : s .«low_streak» ≤ top c
-  quality-within = leb-true _ _ (quality-parts .1)
+  quality-parts = and2 (qualityAccepted c) (leb (s .«low_streak») (top c)) h
 
   pub quality-stays : (q : Float) → qualityIn c (qualityMove c s q .state) ≡ true
   unfolding qualityIn qualityMove

@@ -1,19 +1,13 @@
--- What the detectors share: thresholds that are accepted, and the confidence that compares with twice a threshold.
+-- What the detectors share: limits and counts that are accepted, and the confidence that compares with twice a threshold.
 use mathlib.Core.Bool.{Bool, _&&_}
 use Prim.Native.Nat.{ℕ}
 use lib.Dec.{leb}
-use lib.Ieee.{Float, binary32, ofBits, le, lt, mul, div}
-use Rattle.floats.specs.Clamp.{zero32, clampOf}
+use lib.Ieee.{Float, binary32, ofBits, lt, mul, div}
+use Rattle.floats.specs.Clamp.{clampOf}
+use Rattle.rvcsi_core.specs.Settings.{thresholdOk}
 
 abbrev pub two32 : Float
 two32 = ofBits binary32 0x4000_0000
-
-abbrev pub million : Float
-million = ofBits binary32 0x4974_2400
-
--- "every threshold .. is finite and from 0 to 1,000,000": what lies there is no NaN and no infinity
-abbrev pub thresholdOk : Float → Bool
-thresholdOk t = le zero32 t && le t million
 
 -- two thresholds, "on above off"
 unfoldable pub limitsOk : Float → Float → Bool

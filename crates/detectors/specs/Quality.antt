@@ -5,6 +5,7 @@ use Prim.Native.Nat.{ℕ, _+_, min, max}
 use lib.Dec.{leb}
 use lib.Ieee.{Float, binary32, ofBits, lt, sub}
 use Rattle.floats.specs.Clamp.{one32, clampOf}
+use Rattle.rvcsi_core.specs.Settings.{thresholdOk}
 use Rattle.detectors.specs.declared.Judgement.{Judgement}
 use Rattle.detectors.specs.declared.Judgement.the-variants.{Quiet, SignalQualityDropped, CalibrationRequired}
 use Rattle.detectors.specs.declared.quality.QualityConfig.{QualityConfig}
@@ -14,7 +15,7 @@ use Rattle.detectors.specs.declared.quality.QualityMade.{QualityMade}
 use Rattle.detectors.specs.declared.quality.QualityMade.the-variants.{Fresh, NotAccepted}
 use Rattle.detectors.specs.declared.quality.QualityReply.{QualityReply}
 use Rattle.detectors.specs.declared.quality.QualityReply.the-variants.{Judged, OutOfRange}
-use Rattle.detectors.specs.Common.{thresholdOk, countsOk}
+use Rattle.detectors.specs.Common.{countsOk}
 use Rattle.detectors.specs.Answers.{Said, said, Result, Answer, taken, refusal, unless}
 
 -- "quality drop 0.4, debounce 2, calib 4"

@@ -1,6 +1,6 @@
 // The switch that presence and motion are: two limits and two counts.
 ghost use mathlib.Core.Path.{_≡_};
-ghost use Prim.Native.Nat.{_<_, _+_};
+ghost use Prim.Native.Nat.{_+_};
 ghost use lib.Dec.{leb};
 ghost use Rattle.detectors.specs.Hysteresis.{for, moved};
 ghost use Rattle.detectors.specs.Latch.{latched};
@@ -33,14 +33,19 @@ pub fn count_for(on: bool, enter: u32, exit: u32) -> u32
     if on { exit } else { enter }
 }
 
-// One window. The detectors show the `requires` from their own: the streak is below the count in force.
+// Does one more reach the count?
+fn full(streak: u32, count: u32) -> bool
+    ensures { λ r. ⌜ r ≡ leb count (streak + 1) ⌝ }
+{
+    count == 0 || count - 1 <= streak
+}
+
+// One window.
 pub fn advance(on: bool, streak: u32, counts: bool, count: u32) -> Latch
-    requires { ⌜ streak < count ⌝ }
     ensures { λ r. ⌜ latched r ≡ moved on counts (leb count (streak + 1)) streak ⌝ }
 {
     if counts {
-        let next = streak + 1;
-        if count <= next {
+        if full(streak, count) {
             if on {
                 return Latch {
                     on: false,
@@ -54,6 +59,7 @@ pub fn advance(on: bool, streak: u32, counts: bool, count: u32) -> Latch
                 turn: Turn::Rose,
             };
         }
+        let next = streak + 1;
         return Latch {
             on,
             streak: next,

@@ -1,7 +1,7 @@
 // Three of the four detectors: presence, motion and quality. Settings and states travel by value; each module has the detector's settings, its state,
 // `default`, `accepted`, `with_config`, `in_range`, `moved` and `on_window`. What the drift detector shares with them stands here.
 ghost use mathlib.Core.Path.{_≡_};
-ghost use Rattle.detectors.specs.Common.{thresholdOk, limitsOk, countsOk, overTwice};
+ghost use Rattle.detectors.specs.Common.{limitsOk, countsOk, overTwice};
 
 mod hysteresis;
 pub mod motion;
@@ -21,21 +21,14 @@ pub enum Judgement {
     CalibrationRequired(f32),
 }
 
-// Is a threshold finite and from 0 to 1,000,000?
-pub fn threshold_ok(t: f32) -> bool
-    ensures { λ r. ⌜ r ≡ thresholdOk t ⌝ }
-{
-    0.0 <= t && t <= 1000000.0
-}
-
 // Are two limits accepted: each a threshold in range, and on above off?
 pub fn limits_ok(on: f32, off: f32) -> bool
     ensures { λ r. ⌜ r ≡ limitsOk on off ⌝ }
 {
-    if !threshold_ok(on) {
+    if !rvcsi_core::threshold_ok(on) {
         return false;
     }
-    if !threshold_ok(off) {
+    if !rvcsi_core::threshold_ok(off) {
         return false;
     }
     off < on

@@ -1,6 +1,5 @@
 // The motion detector: strict both ways, above on while settled, below off while moving.
 ghost use mathlib.Core.Path.{_≡_};
-ghost use Prim.Native.Nat.{_<_};
 ghost use Rattle.detectors.specs.Motion.{motionDefault, motionAccepted, motionIn, motionMove, settledOf, motionNew, motionStep, paperMade, paper};
 use crate::Judgement;
 use crate::hysteresis::Turn;
@@ -82,9 +81,8 @@ fn settled(on: f32, m: f32) -> f32
     floats::clamp01(1.0 - crate::over_twice(m, on))
 }
 
-// One window, for a state in range. `on_window` shows that by `in_range`, and so does a pipeline, which asks it of all its detectors first.
+// One window, in range or not.
 pub fn moved(c: MotionConfig, s: MotionState, m: f32) -> MotionMoved
-    requires { ⌜ s .streak < c .«debounce_windows» ⌝ }
     ensures { λ r. ⌜ r ≡ motionMove c s m ⌝ }
 {
     let counts = crate::hysteresis::met(s.moving, m > c.on_threshold, m < c.off_threshold);

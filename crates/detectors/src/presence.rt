@@ -1,7 +1,5 @@
 // The presence detector: a score at or above on counts while absent, one at or under off while present.
 ghost use mathlib.Core.Path.{_≡_};
-ghost use Prim.Native.Nat.{_<_};
-ghost use Rattle.detectors.specs.Hysteresis.{for};
 ghost use Rattle.detectors.specs.Presence.{presenceDefault, presenceAccepted, presenceIn, presenceMove, presenceNew, presenceStep, paperMade, paper};
 use crate::Judgement;
 use crate::hysteresis::Turn;
@@ -78,9 +76,8 @@ pub fn in_range(c: PresenceConfig, s: PresenceState) -> bool
     s.streak < crate::hysteresis::count_for(s.present, c.enter_windows, c.exit_windows)
 }
 
-// One window, for a state in range. `on_window` shows that by `in_range`, and so does a pipeline, which asks it of all its detectors first.
+// One window, in range or not.
 pub fn moved(c: PresenceConfig, s: PresenceState, p: f32) -> PresenceMoved
-    requires { ⌜ s .streak < for (s .present) (c .«enter_windows») (c .«exit_windows») ⌝ }
     ensures { λ r. ⌜ r ≡ presenceMove c s p ⌝ }
 {
     let n = crate::hysteresis::count_for(s.present, c.enter_windows, c.exit_windows);

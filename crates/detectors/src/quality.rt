@@ -1,7 +1,7 @@
 // The quality detector: windows of low quality in a row; dropped, then calibration, once each until a window isn't low.
 ghost use mathlib.Core.Path.{_≡_};
 ghost use mathlib.Core.Bool.{not, _&&_, _||_};
-ghost use Prim.Native.Nat.{min, max, _+_, _≤_};
+ghost use Prim.Native.Nat.{min, max, _+_};
 ghost use lib.Dec.{leb};
 ghost use Rattle.detectors.specs.Quality.{qualityDefault, qualityAccepted, qualityIn, qualityMove, droppedIf, calibrationIf, qualityNew, qualityStep, paperMade, paper};
 use crate::Judgement;
@@ -50,7 +50,7 @@ pub fn default() -> QualityConfig
 pub fn accepted(c: QualityConfig) -> bool
     ensures { λ r. ⌜ r ≡ qualityAccepted c ⌝ }
 {
-    if !crate::threshold_ok(c.drop_threshold) {
+    if !rvcsi_core::threshold_ok(c.drop_threshold) {
         return false;
     }
     crate::counts_ok(c.debounce_windows, c.calib_windows)
@@ -87,7 +87,6 @@ pub fn in_range(c: QualityConfig, s: QualityState) -> bool
 
 // One more, held at `top`.
 fn held(k: u32, top: u32) -> u32
-    requires { ⌜ k ≤ top ⌝ }
     ensures { λ r. ⌜ r ≡ min (k + 1) top ⌝ }
 {
     if k < top { k + 1 } else { top }
@@ -126,9 +125,8 @@ fn calibration_if(due: bool, x: f32) -> Judgement
     }
 }
 
-// One window, for a state in range. `on_window` shows that by `in_range`, and so does a pipeline, which asks it of all its detectors first.
+// One window, in range or not.
 pub fn moved(c: QualityConfig, s: QualityState, q: f32) -> QualityMoved
-    requires { ⌜ s .«low_streak» ≤ max (c .«debounce_windows») (c .«calib_windows») ⌝ }
     ensures { λ r. ⌜ r ≡ qualityMove c s q ⌝ }
 {
     if q < c.drop_threshold {

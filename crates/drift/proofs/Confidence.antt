@@ -7,7 +7,7 @@ use native.Mathlib.Nat.{mul-pos, zero-mul, mul-zero}
 use native.Mathlib.Omega.{arith}
 use borrow.Author.Tests.{ne-eqb, leb-true}
 use lib.IntN.{ℤ, pos}
-use lib.Dec.{T, leb, ltb, eqb, lt→ltb}
+use lib.Dec.{T, leb, ltb, lt→ltb}
 use lib.ListN.{length}
 use lib.Ieee.{Float, nan, inf, fin, Format, binary32, ofBits, le, lt, eq, isNan, mul, div, round, units, odd, up, down, prec, low, unlike}
 use lib.Ieee.Fits.{round-is, up-pos, down-pos}
@@ -16,12 +16,14 @@ use lib.Ieee.Positive.{mul-mono}
 use lib.Ieee.Scale.{finite, overflow}
 use Rattle.floats.specs.Clamp.{zero32, clampOf}
 use Rattle.floats.proofs.Order as order
-use Rattle.floats.proofs.Grid.{round-is-number}
+use Rattle.floats.proofs.Exact.{some, div-number}
+use Rattle.floats.proofs.Numbers.{not-false}
 use Rattle.lists.proofs.Tests.{and2}
 use Rattle.rvcsi_core.specs.Score.{scoreOk}
-use Rattle.rvcsi_core.proofs.Tested.{holds}
+use Rattle.rvcsi_core.specs.Settings.{million}
+use Rattle.rvcsi_core.proofs.Tested.{holds, shown, is-false, either}
 use Rattle.rvcsi_core.proofs.Valid.{clamped-score}
-use Rattle.detectors.specs.Common.{two32, million, overTwice}
+use Rattle.detectors.specs.Common.{two32, overTwice}
 use Rattle.detectors.specs.Answers.{Said, said, quiet, Valid, Result, Answer, taken, refusal, unless}
 use Rattle.detectors.specs.declared.Judgement.{Judgement}
 use Rattle.detectors.specs.declared.Judgement.the-variants.{Quiet, BaselineChanged, AnomalyDetected}
@@ -31,38 +33,20 @@ use Rattle.drift.specs.declared.DriftState.{DriftState}
 use Rattle.drift.specs.Settings.{driftAccepted}
 use Rattle.drift.specs.Drift.{most, lengthOk, driftIn, Drifted, anomalyIf, streakOf, weighed, measured, driftMove, leaves, driftStep}
 use Rattle.drift.proofs.Thresholds.{Threshold, Settings, settings}
-use Rattle.drift.proofs.Ranges.{either, each-way}
+use Rattle.drift.proofs.Ranges.{each-way}
 
--- ---- a number above 0 over a finite one is a number
+-- ---- a value above 0 is a number other than 0
 
-clash : (b : Bool) → T b → T (not b) → ⊥
-clash true t f = f
-clash false t f = t
-
-refuted : (b : Bool) → (T b → ⊥) → T (not b)
-refuted true f = f tt
-refuted false f = tt
-
-not-nan : (x : Float) → isNan x ≡ false → T (not (isNan x))
-not-nan x e = rw e tt
-
-nothing-below : (e : ℤ) → T (not (lt zero32 (fin false zero e)))
-unfolding ofBits le lt isNan
-nothing-below e = simp zero-mul tt
+above-some : (x : Float) → T (lt zero32 x) → (isNan x ≡ false) × T (some x)
+unfolding isNan lt ofBits
+above-some nan p = absurd p
+above-some (inf s) p = (refl, tt)
+above-some (fin true m e) p = absurd p
+above-some (fin false zero e) p = absurd (simp zero-mul at p)
+above-some (fin false (suc m) e) p = (refl, rw (ne-eqb (suc m) 0 (λ e. omega (arith, e))) tt)
 
 quotient-number : (f : Format) (x y : Float) → T (lt zero32 x) → T (finite y) → T (not (isNan (div f x y)))
-unfolding div isNan lt ofBits
-quotient-number f nan y p q = absurd p
-quotient-number f (inf s) nan p q = absurd q
-quotient-number f (inf s) (inf t) p q = absurd q
-quotient-number f (inf s) (fin t n d) p q = tt
-quotient-number f (fin s m e) nan p q = absurd q
-quotient-number f (fin s m e) (inf t) p q = absurd q
-quotient-number f (fin true m e) (fin t n d) p q = absurd p
-quotient-number f (fin false zero e) (fin t n d) p q = absurd (clash (lt zero32 (fin false zero e)) p (nothing-below e))
-quotient-number f (fin false (suc m) e) (fin t zero d) p q = rw (ne-eqb (suc m) 0 (λ e. omega (arith, e))) tt
-quotient-number f (fin false (suc m) e) (fin t (suc n) d) p q =
-    rw (ne-eqb (suc n) 0 (λ e. omega (arith, e))) (not-nan (round f (unlike false t) (suc m * up e * down d) (suc n * up d * down e)) (round-is-number f (unlike false t) (suc m * up e * down d) (suc n * up d * down e)))
+quotient-number f x y p q = let s = above-some x p in not-false (isNan (div f x y)) (div-number f x y (s .0) q (rw (shown (some x) (s .1)) tt))
 
 -- ---- twice an accepted threshold is finite
 
@@ -132,7 +116,7 @@ above-zero : (x t : Float) → T (le zero32 t) → T (lt t x) → T (lt zero32 x
 unfolding ofBits isNan
 above-zero x t z l =
     subst T (sym (order.lt-is-not-le zero32 x tt (le-numbers t x (order.lt-le t x l) .1)))
-    (refuted (le x zero32) (λ h. order.lt-not-le t x l (order.le-trans x zero32 t h z)))
+    (not-false (le x zero32) (is-false (le x zero32) (λ h. order.lt-not-le t x l (order.le-trans x zero32 t h z))))
 
 pub over-twice-valid : (x t : Float) → Threshold t → T (lt t x) → T (scoreOk (overTwice x t))
 unfolding overTwice

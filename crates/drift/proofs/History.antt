@@ -9,6 +9,7 @@ use lib.Dec.{leb, eqb}
 use lib.ListN.{length, drop}
 use lib.Ieee.{Float, lt}
 use Rattle.lists.proofs.Paste.{laid-fits}
+use Rattle.rvcsi_core.proofs.Tested.{known, either, leb-less}
 use Rattle.detectors.specs.Common.{overTwice}
 use Rattle.detectors.specs.Answers.{Said, said, quiet, event, anomaly, baseline-changed, taken}
 use Rattle.detectors.specs.declared.Judgement.{Judgement}
@@ -22,23 +23,14 @@ use Rattle.drift.specs.Distance.{distanceOf}
 use Rattle.drift.specs.Drift.{most, driftIn, Drifted, judging, begun, anomalyIf, streakOf, weighed, measured, driftMove, result, leaves, driftStep}
 use Rattle.drift.specs.History.{Few, driftRun, firstSays, secondSays, holds, farther, drifts, isQuiet, driftedFor}
 use Rattle.drift.proofs.Thresholds.{settings}
-use Rattle.drift.proofs.Ranges.{either, each-way, move-length, After, move-after, drift-begins, drift-stays}
+use Rattle.drift.proofs.Ranges.{each-way, move-length, After, move-after, drift-begins, drift-stays}
 use Rattle.drift.proofs.Steps as law
 
 -- ---- numbers
 
--- a test's value with its equation
-known : {X : Type 0} (b : Bool) → (b ≡ true → X) → (b ≡ false → X) → X
-known true f g = f refl
-known false f g = g refl
-
 leb-more : (n k : ℕ) → leb n k ≡ leb (suc n) (k + 1)
 leb-more n k =
     known (leb n k) (λ e. e ∙ sym (le-leb (suc n) (k + 1) (omega (arith, leb-true n k e)))) (λ e. e ∙ sym (lt-leb (suc n) (k + 1) (omega (arith, leb-false n k e))))
-
-leb-less : (n k : ℕ) → 0 < n → leb n (k + 1) ≡ leb (n - 1) k
-leb-less n k h =
-    known (leb n (k + 1)) (λ e. e ∙ sym (le-leb (n - 1) k (omega (arith, leb-true n (k + 1) e)))) (λ e. e ∙ sym (lt-leb (n - 1) k (omega (arith, leb-false n (k + 1) e))))
 
 not-set : (b : Baseline) (n : ℕ) → b ≡ Unset → b ≡ Set n → ⊥
 not-set b n p q = let z : _≡_ {A = ℕ} 0 1 = cc in omega arith

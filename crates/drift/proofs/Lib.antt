@@ -5,4 +5,4 @@ pub mod Ranges
 pub mod Confidence
 pub mod History
 pub mod Agree
-pub mod Worked
+pub mod Examples

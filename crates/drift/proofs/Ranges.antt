@@ -1,6 +1,6 @@
 -- A detector in range stays in range, and the store keeps its length, whatever the list. Assumes nothing.
 use mathlib.Core.Path.{_≡_, refl}
-use mathlib.Core.Bool.{Bool, true, false, _&&_, cond}
+use mathlib.Core.Bool.{true, false, _&&_}
 use mathlib.Core.List.{List}
 use Prim.Native.Nat.{ℕ, _+_, _<_, _≤_}
 use borrow.Author.Tests.{le-leb, lt-ltb, leb-false, ltb-true}
@@ -8,6 +8,7 @@ use lib.Dec.{leb, ltb, eqb}
 use lib.ListN.{length}
 use lib.Ieee.{Float}
 use Rattle.lists.proofs.Tests.{and2}
+use Rattle.rvcsi_core.proofs.Tested.{either}
 use Rattle.drift.specs.declared.BaselineDriftConfig.{BaselineDriftConfig}
 use Rattle.drift.specs.declared.Baseline.{Baseline}
 use Rattle.drift.specs.declared.Baseline.the-variants.{Unset, Set}
@@ -16,11 +17,6 @@ use Rattle.drift.specs.Settings.{driftAccepted, driftFresh}
 use Rattle.drift.specs.Drift.{most, lengthOk, driftIn, Drifted, begun, smoothed, streakOf, weighed, measured, from, driftMove}
 use Rattle.lists.proofs.Lengths.{length-laid, length-tab-over}
 use Rattle.drift.proofs.Thresholds.{settings}
-
--- what holds of both branches, each under its test
-pub either : {A : Type 0} (P : A → Type 0) (b : Bool) (x y : A) → (b ≡ true → P x) → (b ≡ false → P y) → P (cond b x y)
-either P true x y p q = p refl
-either P false x y p q = q refl
 
 -- what holds of each of the three ways a window can go holds of the window
 pub each-way : (P : Drifted → Type 0) (c : BaselineDriftConfig) (s : DriftState) (cur base : List Float)

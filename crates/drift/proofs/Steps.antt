@@ -1,8 +1,9 @@
 -- What the code does, step by step, makes the definitions. Assumes nothing.
-use Prim.Native.Nat.{ℕ, _≤_, _<_}
+use Prim.Native.Nat.{ℕ, _≤_, _<_, min}
 use mathlib.Core.Path.{_≡_, refl, sym, ap, _∙_}
 use mathlib.Core.Bool.{Bool, true, false, _&&_}
 use mathlib.Core.List.{List}
+use native.Mathlib.Nat.{min-eq-left}
 use borrow.Author.Tests.{le-leb, lt-leb, eq-eqb, ne-eqb, ltb-true}
 use lib.Dec.{leb, ltb, eqb}
 use lib.IntN.{pos}
@@ -13,6 +14,7 @@ use Rattle.floats.specs.Convert.{convert}
 use Rattle.floats.specs.Sqrt.{sqrt}
 use Rattle.lists.proofs.Tests.{and2}
 use Rattle.lists.specs.Fold.{sumTo}
+use Rattle.lists.specs.Squares.{squareAt, awayAt}
 use Rattle.lists.specs.Laid.{laid}
 use Rattle.detectors.specs.Common.{overTwice}
 use Rattle.detectors.specs.Answers.{Answer, taken, refusal}
@@ -22,7 +24,7 @@ use Rattle.drift.specs.declared.BaselineDriftConfig.{BaselineDriftConfig
 use Rattle.drift.specs.declared.Baseline.the-variants.{Unset, Set}
 use Rattle.drift.specs.declared.DriftState.{DriftState}
 use Rattle.drift.specs.Settings.{driftAccepted}
-use Rattle.drift.specs.Distance.{squareAt, squareAway, rootMean, rmsOf, rmsDistance, relativeTo, distanceOf}
+use Rattle.drift.specs.Distance.{rootMean, rmsOf, rmsDistance, relativeTo, distanceOf}
 use Rattle.drift.specs.Drift.{most, lengthOk, driftIn, anomalyIf, streakOf, ewma, Drifted, judging, begun, weighed, measured, driftMove, Driving, leaves, driftStep}
 
 -- ---- the distance
@@ -32,11 +34,12 @@ module _ (cur base : List Float) where
   unfolding distanceOf rootMean relativeTo le ofBits
   none e = rw e
 
-  pub some : (length cur ≡ 0 → ⊥) → (by a b x y r : Float) → by ≡ sqrt binary64 (ofInt binary64 (pos (length cur))) → a ≡ sumTo binary64 (squareAway cur base) (length cur)
-      → x ≡ convert binary32 (div binary64 (sqrt binary64 a) by) → b ≡ sumTo binary64 (squareAt base) (length cur) → y ≡ convert binary32 (div binary64 (sqrt binary64 b) by)
+  pub some : (length cur ≡ 0 → ⊥) → length cur ≤ length base → (by a b x y r : Float) → by ≡ sqrt binary64 (ofInt binary64 (pos (length cur)))
+      → a ≡ sumTo binary64 (awayAt cur base) (min (length cur) (length base)) → x ≡ convert binary32 (div binary64 (sqrt binary64 a) by)
+      → b ≡ sumTo binary64 (squareAt base) (min (length cur) (length base)) → y ≡ convert binary32 (div binary64 (sqrt binary64 b) by)
       → r ≡ relativeTo y x → r ≡ distanceOf cur base
   unfolding distanceOf rootMean
-  some h by a b x y r eby ea ex eb ey er = rw (er, ex, ea, ey, eb, eby, ne-eqb (length cur) 0 h)
+  some h le by a b x y r eby ea ex eb ey er = rw (er, ex, ea, ey, eb, min-eq-left le, eby, ne-eqb (length cur) 0 h)
 
 -- ---- one window
 

@@ -6,8 +6,9 @@ use borrow.Author.Tests.{leb-true}
 use lib.Dec.{T, leb}
 use lib.Ieee.{Float, le, lt}
 use Rattle.floats.specs.Clamp.{zero32, one32}
+use Rattle.rvcsi_core.specs.Settings.{million, thresholdOk}
 use Rattle.rvcsi_core.proofs.Tested.{holds, parts}
-use Rattle.detectors.specs.Common.{million, thresholdOk, limitsOk}
+use Rattle.detectors.specs.Common.{limitsOk}
 use Rattle.drift.specs.declared.BaselineDriftConfig.{BaselineDriftConfig}
 use Rattle.drift.specs.Settings.{driftAccepted}
 
@@ -24,6 +25,7 @@ pub record Threshold (t : Float) : Type 0 where
   pub most : T (le t million)
 
 threshold : (t : Float) → thresholdOk t ≡ true → Threshold t
+unfolding thresholdOk
 threshold t h = let p = parts (le zero32 t) (le t million) (holds h) in record { least = p .0; most = p .1 }
 
 pub record Settings (c : BaselineDriftConfig) : Type 0 where

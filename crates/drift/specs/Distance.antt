@@ -4,22 +4,13 @@ use mathlib.Core.List.{List}
 use Prim.Native.Nat.{ℕ}
 use lib.Dec.{eqb}
 use lib.IntN.{pos}
-use lib.ListN.{length, getD}
-use lib.Ieee.{Float, nan, binary32, binary64, le, sub, mul, div, ofInt, ofBits}
+use lib.ListN.{length}
+use lib.Ieee.{Float, binary32, binary64, le, div, ofInt, ofBits}
 use Rattle.floats.specs.Clamp.{zero32}
 use Rattle.floats.specs.Convert.{convert}
 use Rattle.floats.specs.Sqrt.{sqrt}
 use Rattle.lists.specs.Fold.{sumTo}
-
--- "f32 differences widened": that at place k
-abbrev pub differenceAt : List Float → List Float → ℕ → Float
-differenceAt cur base k = sub binary32 (getD cur k nan) (getD base k nan)
-
-abbrev pub squareAway : List Float → List Float → ℕ → Float
-squareAway cur base k = mul binary64 (differenceAt cur base k) (differenceAt cur base k)
-
-abbrev pub squareAt : List Float → ℕ → Float
-squareAt l k = mul binary64 (getD l k nan) (getD l k nan)
+use Rattle.lists.specs.Squares.{squareAt, awayAt}
 
 -- "root(sum of squares)/root(n)", narrowed; "n = 0 gives 0"
 unfoldable pub rootMean : Float → ℕ → Float
@@ -28,7 +19,7 @@ rootMean sum n =
 
 -- the distance of the list from the first values of the store, as many as the list has
 abbrev pub rmsDistance : List Float → List Float → Float
-rmsDistance cur base = rootMean (sumTo binary64 (squareAway cur base) (length cur)) (length cur)
+rmsDistance cur base = rootMean (sumTo binary64 (awayAt cur base) (length cur)) (length cur)
 
 -- the RMS of the first n
 abbrev pub rmsOf : List Float → ℕ → Float

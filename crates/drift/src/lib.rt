@@ -5,9 +5,8 @@ ghost use lib.ListN.{length};
 ghost use lib.Ieee.{binary32, binary64, div};
 ghost use Rattle.floats.specs.Sqrt.{sqrt};
 ghost use Rattle.floats.specs.Convert.{convert};
-ghost use Rattle.lists.specs.Fold.{sumTo};
 ghost use Rattle.drift.specs.Settings.{driftDefault, driftAccepted, paperMade, driftNew};
-ghost use Rattle.drift.specs.Distance.{squareAt, squareAway, relativeTo, distanceOf};
+ghost use Rattle.drift.specs.Distance.{relativeTo, distanceOf};
 ghost use Rattle.drift.specs.Drift.{most, lengthOk, driftIn, anomalyIf, streakOf, ewma, Driving, begun, measured, driftMove, paper, driftStep};
 use detectors::Judgement;
 
@@ -122,36 +121,6 @@ pub fn in_range(c: BaselineDriftConfig, s: DriftState) -> bool
 
 // Distance.
 
-// The sum of squares of the first n.
-fn squares(list: &[f32], n: usize) -> f64
-    requires { ⌜ n ≤ length (now list) ⌝ }
-    ensures { λ r. ⌜ r ≡ sumTo binary64 (squareAt (now (list .entry))) n ⌝ }
-{
-    let mut sum = 0.0f64;
-    let mut k = 0usize;
-    while k < n {
-        let x = floats::widen(list[k]);
-        sum = sum + x * x;
-        k += 1;
-    }
-    sum
-}
-
-// The sum of squares of the f32 differences.
-fn squares_away(current: &[f32], baseline: &[f32]) -> f64
-    requires { ⌜ length (now current) ≤ length (now baseline) ⌝ }
-    ensures { λ r. ⌜ r ≡ sumTo binary64 (squareAway (now (current .entry)) (now (baseline .entry))) (length (now (current .entry))) ⌝ }
-{
-    let mut sum = 0.0f64;
-    let mut k = 0usize;
-    while k < current.len() {
-        let d = floats::widen(current[k] - baseline[k]);
-        sum = sum + d * d;
-        k += 1;
-    }
-    sum
-}
-
 // The root of a sum of squares over the root of their count.
 fn root_over(sum: f64, by: f64) -> f32
     ensures { λ r. ⌜ r ≡ convert binary32 (div binary64 (sqrt binary64 sum) by) ⌝ }
@@ -177,8 +146,8 @@ fn relative_drift(current: &[f32], baseline: &[f32]) -> f32
         return 0.0;
     }
     let root_n = floats::root(n as f64);
-    let distance = root_over(squares_away(current, baseline), root_n);
-    let size = root_over(squares(baseline, n), root_n);
+    let distance = root_over(lists::squares_away(current, baseline), root_n);
+    let size = root_over(lists::squares(baseline, n), root_n);
     relative(size, distance)
 }
 
@@ -262,13 +231,8 @@ fn begin(streak: u32, current: &[f32], baseline: &mut [f32]) -> DriftMoved
     }
 }
 
-// One window that no reply refuses. `on_window` shows that by its tests, and so does a pipeline, which asks `in_range` of all its detectors first.
-pub fn moved(
-    c: BaselineDriftConfig,
-    s: DriftState,
-    current: &[f32],
-    baseline: &mut [f32],
-) -> DriftMoved
+// One window that no reply refuses.
+fn moved(c: BaselineDriftConfig, s: DriftState, current: &[f32], baseline: &mut [f32]) -> DriftMoved
     requires { ⌜ Driving c (s .«drift_streak») (length (now current)) (length (now baseline)) ⌝ }
     ensures { λ r. ⌜ record { moved = r; store = now (baseline .exit) } ≡ driftMove c s (now (current .entry)) (now (baseline .entry)) ⌝ }
 {

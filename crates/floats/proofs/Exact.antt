@@ -4,7 +4,8 @@ use mathlib.Core.Logic.{_⊎_, inl, inr}
 use Prim.Native.Nat.{ℕ, zero, suc, _+_, _-_, _*_, _/_, _%_, _^_, _≤_, _<_}
 use native.Mathlib.Nat.{le-trans, le-of-eq, le-of-suc-le-suc, lt-of-lt-of-le, lt-of-not-le, lt-irrefl, mul-comm, mul-assoc, mul-left-comm, mul-right-comm, mul-one, one-mul, zero-mul, mul-pos, eq-of-mul-eq-mul-right, lt-of-mul-lt-mul-right, mul-lt-mul-of-pos-right}
 use native.Mathlib.Omega.{arith}
-use mathlib.Core.Bool.{Bool, true, false, not, _&&_, cond, Bool·beq}
+use mathlib.Core.Bool.{Bool, true, false, not, _&&_, _||_, cond, Bool·beq}
+use borrow.Author.Tests.{ne-eqb}
 use lib.IntN.{ℤ, pos, negsuc}
 use lib.Dec.{T, leb, ltb, eqb, leb→le, ltb→lt, eqb→eq}
 use lib.Pow.{pow-add, pow-pos, pow-lt, pow-mono}
@@ -65,7 +66,7 @@ value-unique f x y s a c p q C v w =
     let k : HasValue y s (u .0) (2 ^ low f) = subst (λ (n : ℕ). HasValue y s n (2 ^ low f)) (sym e) (z .1) in
     sym (ofBits-toBits f x p) ∙ ap (ofBits f) (toBits-of-value f x s (u .0) (u .1) ∙ sym (toBits-of-value f y s (u .0) k)) ∙ ofBits-toBits f y q
 
--- ---- the operations on finite values give no NaN, but for a quotient by zero
+-- ---- the operations on finite values give no NaN, but for 0 / 0
 sum-number : (f : Format) (s : Bool) (a : ℕ) (t : Bool) (b c : ℕ) → isNan (sum f s a t b c) ≡ false
 unfolding sum
 sum-number f s a t b c = go (Bool·beq s t) (ltb a b)
@@ -111,6 +112,26 @@ mul-number f (inf s) y p q = absurd p
 mul-number f (fin s m e) nan p q = absurd q
 mul-number f (fin s m e) (inf t) p q = absurd q
 mul-number f (fin s m e) (fin t n d) p q = round-is-number f (lib.Ieee.unlike s t) (m * up e * (n * up d)) (down e * down d)
+
+-- a number other than 0
+abbrev pub some : Float → Bool
+some nan = false
+some (inf s) = true
+some (fin s m e) = not (eqb m 0)
+
+-- a number over a finite one, not both 0
+pub div-number : (f : Format) (x y : Float) → isNan x ≡ false → T (finite y) → T (some x || some y) → isNan (div f x y) ≡ false
+unfolding div isNan
+div-number f nan y p q h = p
+div-number f (inf s) nan p q h = absurd q
+div-number f (inf s) (inf t) p q h = absurd q
+div-number f (inf s) (fin t n d) p q h = refl
+div-number f (fin s m e) nan p q h = absurd q
+div-number f (fin s m e) (inf t) p q h = absurd q
+div-number f (fin s zero e) (fin t zero d) p q h = absurd h
+div-number f (fin s (suc m) e) (fin t zero d) p q h = rw (ne-eqb (suc m) 0 (λ e. omega (arith, e)))
+div-number f (fin s m e) (fin t (suc n) d) p q h =
+    rw (ne-eqb (suc n) 0 (λ e. omega (arith, e))) (round-is-number f (lib.Ieee.unlike s t) (m * up e * down d) (suc n * up d * down e))
 
 -- ---- what the format holds is not changed by rounding
 place : (l : ℕ) (e : ℤ) → down e ≤ 2 ^ l → (j : ℕ) × ((m : ℕ) → m * up e * 2 ^ l ≡ m * 2 ^ j * down e)

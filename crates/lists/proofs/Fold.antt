@@ -1,10 +1,12 @@
 -- Laws of sums. Assumes nothing.
 use Prim.Native.Nat.{ℕ, zero, suc, _+_, _<_}
 use native.Mathlib.Omega.{arith}
+use native.Mathlib.Nat.{eq-or-lt-of-le}
+use mathlib.Core.Logic.{⊎-elim}
 use native.Mathlib.Numerals.{add-one}
 use mathlib.Core.Path.{_≡_, refl}
 use lib.IntN.{pos}
-use lib.Ieee.{Float, Format, add, div, ofInt, ofBits}
+use lib.Ieee.{Float, nan, inf, fin, Format, add, div, ofInt, ofBits}
 use Rattle.lists.specs.Fold.{sumTo, meanTo}
 
 -- one summand more
@@ -40,6 +42,29 @@ mean-same f x y n h = rw (sum-same f x y n h)
 pub mean-is : (f : Format) (x : ℕ → Float) (n : ℕ) {t : Float} → t ≡ sumTo f x n → div f t (ofInt f (pos n)) ≡ meanTo f x n
 unfolding meanTo
 mean-is f x n e = rw e
+
+-- a summand that is a NaN makes the sum one, and the mean
+add-nan : (f : Format) (t : Float) → add f t nan ≡ nan
+unfolding add
+add-nan f nan = refl
+add-nan f (inf s) = refl
+add-nan f (fin s m e) = refl
+
+nan-add : (f : Format) (x : Float) → add f nan x ≡ nan
+unfolding add
+nan-add f x = refl
+
+sum-nan : (f : Format) (x : ℕ → Float) (n k : ℕ) → k < n → x k ≡ nan → sumTo f x n ≡ nan
+unfolding sumTo
+sum-nan f x zero k h e = absurd (omega arith)
+sum-nan f x (suc n) k h e = ⊎-elim
+    (λ g. rw (← g, e) (add-nan f _))
+    (λ b. rw (sum-nan f x n k b e) (nan-add f (x n)))
+    (eq-or-lt-of-le {n = k} {m = n} (omega arith))
+
+pub mean-nan : (f : Format) (x : ℕ → Float) (n k : ℕ) → k < n → x k ≡ nan → meanTo f x n ≡ nan
+unfolding meanTo div
+mean-nan f x n k h e = rw (sum-nan f x n k h e)
 
 -- what the first sum has, and each sum that one summand more gives, the whole sum has
 pub sum-has : (P : Float → Type 0) (f : Format) (x : ℕ → Float) (n : ℕ) → P (ofBits f 0)

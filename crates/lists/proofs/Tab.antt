@@ -1,13 +1,13 @@
 -- Laws of the list of f 0, .., f (n - 1), and of a loop that writes it over the front of a list. Assumes nothing.
-use Prim.Native.Nat.{ℕ, zero, suc, _+_, _<_}
+use Prim.Native.Nat.{ℕ, zero, suc, _+_, _≤_, _<_}
 use mathlib.Core.Path.{_≡_, refl, sym, _∙_}
 use mathlib.Core.List.{List, [], _∷_, _++_, append-nil}
 use native.Mathlib.Numerals.{add-one}
 use native.Mathlib.Omega.{arith}
 use native.Mathlib.Nat.{eq-or-lt-of-le}
 use mathlib.Core.Logic.{⊎-elim}
-use lib.ListN.{length, drop, set, getD, length-append, length-set, List·getD-append}
-use lib.Seq.{drop-cons, set-at, append-snoc, getD-at, ext-getD, drop-length}
+use lib.ListN.{length, take, drop, set, getD, length-append, length-set, List·getD-append}
+use lib.Seq.{drop-cons, set-at, append-snoc, getD-at, getD-take, ext-getD, drop-length, length-take-le}
 use Rattle.lists.specs.Tab.{tab}
 
 module _ {A : Type 0} where
@@ -52,9 +52,14 @@ module _ {A : Type 0} where
   over-all {f} {l} o e = over-done o e ∙ rw (drop-length l) (append-nil (tab f (length l)))
 
   -- the place that is written next still has what it had
-  pub over-next : {f : ℕ → A} {l out : List A} {n : ℕ} (z : A) → Over f l n out → n < length l → getD out n z ≡ getD l n z
+  over-next : {f : ℕ → A} {l out : List A} {n : ℕ} (z : A) → Over f l n out → n < length l → getD out n z ≡ getD l n z
   over-next {f} {l} {out} {n} z o h =
       rw (o .is, drop-cons l n z) (getD-at (tab f n) (getD l n z) (drop (suc n) l) z n (length-tab f n))
+
+  -- a turn that makes its place from what stands there
+  pub over-step : {f : ℕ → A} {l out : List A} {n : ℕ} {v : A} (z : A) → Over f l n out → n < length l → (getD out n z ≡ getD l n z → v ≡ f n)
+      → Over f l (n + 1) (set out n v)
+  over-step z o h e = over-more o h (e (over-next z o h))
 
   -- what stands at place k
   pub getD-tab : (f : ℕ → A) (n k : ℕ) (z : A) → k < n → getD (tab f n) k z ≡ f k
@@ -68,3 +73,9 @@ module _ {A : Type 0} where
   -- a list that has f k at each place k is the list of them
   pub tab-ext : (f : ℕ → A) (z : A) (l : List A) → ((k : ℕ) → k < length l → getD l k z ≡ f k) → l ≡ tab f (length l)
   tab-ext f z l e = ext-getD z l (tab f (length l)) (sym (length-tab f (length l))) (λ k h. e k h ∙ sym (getD-tab f (length l) k z h))
+
+  -- the first n of a list
+  pub tab-take : (z : A) (l : List A) (n : ℕ) → n ≤ length l → take n l ≡ tab (λ k. getD l k z) n
+  tab-take z l n h =
+      let e : length (take n l) ≡ n = length-take-le n l h in
+      rw e at (tab-ext (λ k. getD l k z) z (take n l) (λ k b. getD-take n l k z (omega arith)))

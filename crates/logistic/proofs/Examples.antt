@@ -1,21 +1,11 @@
--- Worked values of the score, each by computation: 01's T11 and T12, its two roundings of q, the limits, and a z that overflows.
+-- Worked values of the score, each by computation: 01's two roundings of q, the limits, and a z that overflows.
 -- Assumes nothing.
 use mathlib.Core.Path.{_≡_, refl}
 use mathlib.Core.Bool.{false}
 use lib.IntN.{pos, negsuc}
 use lib.Ieee.{nan, inf, binary32, ofBits, isNan, lt, mul, sub, round}
 use Rattle.logistic.specs.Table.{table}
-use Rattle.logistic.specs.Score.{zOf, floor, qOf, uOf, unitsAt, scoreOf, taken, refusal, answerOf}
-
--- T11: z 0 gives 0.5
-pub t11 : answerOf (ofBits binary32 0) ≡ taken 0 (ofBits binary32 0x3f00_0000)
-unfolding answerOf scoreOf unitsAt uOf qOf floor table isNan ofBits lt round
-t11 = refl
-
--- T12: z -17 gives 0
-pub t12 : answerOf (ofBits binary32 0xc188_0000) ≡ taken 0 (ofBits binary32 0)
-unfolding answerOf scoreOf isNan ofBits lt
-t12 = refl
+use Rattle.logistic.specs.Score.{zOf, floor, qOf, uOf, unitsAt, scoreOf, refusal, answerOf}
 
 -- "z = -2^-20 gives -1, -0 gives 0"
 pub q-below : qOf (ofBits binary32 0xb580_0000) ≡ negsuc 0

@@ -1,11 +1,5 @@
--- Laws of the pipeline, for a reader: Windows, Calls, Totals, Owed, Defaults, Tilted and Agree. Begins, Carrying and Lengths serve the proofs.
+-- Laws of the pipeline, for a reader: Windows and Agree. Begins and Carrying serve the proofs of the functions.
 pub mod Windows
-pub mod Calls
-pub mod Totals
-pub mod Owed
-pub mod Defaults
-pub mod Tilted
 pub mod Agree
 pub mod Begins
 pub mod Carrying
-pub mod Lengths

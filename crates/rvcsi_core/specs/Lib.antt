@@ -1,5 +1,6 @@
--- What counters, frames, windows and events promise by.
+-- What counters, frames, windows, events and thresholds promise by.
 pub mod Score
+pub mod Settings
 pub mod Counters
 pub mod Frame
 pub mod Window

@@ -1,7 +1,10 @@
 -- A detector taken apart: what each arm of the code needs, and makes. Assumes nothing.
-use mathlib.Core.Path.{_≡_, ap}
-use mathlib.Core.List.{List}
-use Prim.Native.Nat.{ℕ, _<_, _≤_, max}
+use mathlib.Core.Path.{_≡_, sym, ap, _∙_}
+use mathlib.Core.List.{List, [], _∷_}
+use Prim.Native.Nat.{ℕ}
+use lib.ListN.{length}
+use types.Run.{OneOf, miss}
+use denote.Enum.Declared.{tagOf}
 use lib.Ieee.{Float}
 use Rattle.rvcsi_core.specs.declared.window.CsiWindow.{CsiWindow}
 use Rattle.detectors.specs.declared.presence.PresenceConfig.{PresenceConfig}
@@ -15,29 +18,37 @@ use Rattle.detectors.specs.declared.quality.QualityState.{QualityState}
 use Rattle.detectors.specs.declared.quality.QualityMoved.{QualityMoved}
 use Rattle.drift.specs.declared.BaselineDriftConfig.{BaselineDriftConfig}
 use Rattle.drift.specs.declared.DriftState.{DriftState}
-use Rattle.detectors.specs.Hysteresis.{for}
+use Rattle.drift.proofs.DriftReply as Declared
+use Rattle.drift.specs.declared.DriftReply.{DriftReply}
+use Rattle.drift.specs.declared.DriftReply.the-variants.{Judged}
+use Rattle.detectors.specs.declared.Judgement.{Judgement}
 use Rattle.detectors.specs.Presence.{presenceMove}
 use Rattle.detectors.specs.Motion.{motionMove}
 use Rattle.detectors.specs.Quality.{qualityMove}
-use Rattle.drift.specs.Drift.{driftMove, Drifted, Driving}
-use Rattle.detectors.proofs.Ranges.{presence-below, motion-below, quality-within}
-use Rattle.drift.proofs.Steps.{driving}
+use Rattle.drift.specs.Drift.{driftMove, Drifted, driftStep}
+use Rattle.drift.proofs.Agree.{outcome, judgedBy, taken-judged}
 use Rattle.slots.specs.declared.Detector.{Detector}
 use Rattle.slots.specs.declared.Detector.the-variants.{Presence, Motion, Quality, Drift}
 use Rattle.slots.specs.Slots.{byPresence, byMotion, byQuality, byDrift, stepOf, Ready}
 
-module _ {d : Detector} {n m : ℕ} (r : Ready d n m) where
-  pub presence-ready : (c : PresenceConfig) (s : PresenceState) → d ≡ Presence c s → s .streak < for (s .present) (c .«enter_windows») (c .«exit_windows»)
-  presence-ready c s e = presence-below c s (rw e at (r .fine))
+pub drift-ready : {d : Detector} {n m : ℕ} → Ready d n m → (c : BaselineDriftConfig) (s : DriftState) → d ≡ Drift c s → Ready (Drift c s) n m
+drift-ready r c s e = record { fine = rw e at (r .fine); few = r .few; room = r .room }
 
-  pub motion-ready : (c : MotionConfig) (s : MotionState) → d ≡ Motion c s → s .streak < c .«debounce_windows»
-  motion-ready c s e = motion-below c s (rw e at (r .fine))
+-- a drift detector's reply where no refusal comes
+module _ (c : BaselineDriftConfig) (s : DriftState) (means l l′ : List Float) (r : DriftReply) (ready : Ready (Drift c s) (length means) (length l)) (is-r : outcome r l′ ≡ driftStep c s means l) where
+  answered : (r ≡ judgedBy (driftMove c s means l .moved)) × (l′ ≡ driftMove c s means l .store)
+  answered = taken-judged c s means l (ready .fine) (ready .few) (ready .room) r l′ is-r
 
-  pub quality-ready : (c : QualityConfig) (s : QualityState) → d ≡ Quality c s → s .«low_streak» ≤ max (c .«debounce_windows») (c .«calib_windows»)
-  quality-ready c s e = quality-within c s (rw e at (r .fine))
+  pub drift-judged : (t : DriftState) (first second : Judgement) → r ≡ Judged t first second → record { detector = Drift c t; first = first; second = second; baseline = l′ } ≡ byDrift c (driftMove c s means l)
+  drift-judged t first second e =
+      let h : Judged t first second ≡ judgedBy (driftMove c s means l .moved) = sym e ∙ answered .0 in
+      let a : t ≡ driftMove c s means l .moved .state = cc in
+      let b : first ≡ driftMove c s means l .moved .first = cc in
+      let d : second ≡ driftMove c s means l .moved .second = cc in
+      rw (a, b, d, answered .1)
 
-  pub drift-ready : (c : BaselineDriftConfig) (s : DriftState) → d ≡ Drift c s → Driving c (s .«drift_streak») n m
-  drift-ready c s e = driving c s n m (rw e at (r .fine)) (r .few) (r .room)
+  pub never-refused : OneOf (1 ∷ 2 ∷ 3 ∷ []) (tagOf Declared.the-type r) → ⊥
+  never-refused k = miss (1 ∷ 2 ∷ 3 ∷ []) 0 tt (rw (answered .0) at k)
 
 module _ (d : Detector) (w : CsiWindow) (means l : List Float) where
   pub by-presence : (c : PresenceConfig) (s : PresenceState) (m : PresenceMoved) → d ≡ Presence c s → m ≡ presenceMove c s (w .«presence_score») → byPresence c m l ≡ stepOf w means d l

@@ -1,7 +1,7 @@
 -- Demand 3 for two sets of detectors: at whatever places their presence detectors stand, and whatever else they hold. Assumes nothing.
 use Prim.Native.Nat.{ℕ, _≤_, _<_}
 use mathlib.Core.Path.{_≡_, refl, sym, ap, _∙_}
-use mathlib.Core.Bool.{Bool, true, false}
+use mathlib.Core.Bool.{true}
 use mathlib.Core.List.{List, [], _∷_, map}
 use lib.ListN.{length}
 use lib.Ieee.{Float}
@@ -9,11 +9,10 @@ use Rattle.detectors.specs.declared.presence.PresenceConfig.{PresenceConfig}
 use Rattle.detectors.specs.Presence.{presenceAccepted, presenceFresh, presenceRun}
 use Rattle.detectors.specs.Pairs.{Pair, EachNoLower, Keener}
 use Rattle.detectors.proofs.Monotone.{demand-3}
-use Rattle.slots.specs.declared.Detector.{Detector}
-use Rattle.slots.specs.declared.Detector.the-variants.{Presence, Motion, Quality, Drift}
+use Rattle.slots.specs.declared.Detector.the-variants.{Presence}
 use Rattle.slots.specs.declared.Slot.{Slot}
 use Rattle.slots.specs.Slots.{detectorAt}
-use Rattle.slots.specs.Runs.{Turn, heardAll, scores}
+use Rattle.slots.specs.Runs.{Turn, heardAll, scores, sees}
 use Rattle.slots.proofs.Places.{presence-alone}
 
 -- a window of the first set with one of the second
@@ -30,13 +29,6 @@ seconds l = map (λ (t : Turns). t .second) l
 -- the presence scores of each pair
 abbrev pub pairs : List Turns → List Pair
 pairs l = map (λ (t : Turns). record { first = t .first .window .«presence_score»; second = t .second .window .«presence_score» }) l
-
--- somebody is there, by the detector
-abbrev pub sees : Detector → Bool
-sees (Presence c s) = s .present
-sees (Motion c s) = false
-sees (Quality c s) = false
-sees (Drift c s) = false
 
 first-scores : (l : List Turns) → scores (firsts l) ≡ map (λ (w : Pair). w .first) (pairs l)
 unfolding scores

@@ -99,7 +99,7 @@ module _ (slots : List Slot) (n : ℕ) (d : Detector) (long : n < length slots) 
       }
 
 -- a property of the set after `unless`, by which way it went
-by-test : (P : Detectors → Type 0) (b : Bool) (v rest : Adding) → P (v .set) → (b ≡ true → P (rest .set)) → P (unless b v rest .set)
+pub by-test : (P : Detectors → Type 0) (b : Bool) (v rest : Adding) → P (v .set) → (b ≡ true → P (rest .set)) → P (unless b v rest .set)
 by-test P true v rest p q = q refl
 by-test P false v rest p q = p
 

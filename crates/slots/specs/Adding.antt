@@ -69,7 +69,7 @@ abbrev pub unless : Bool → Adding → Adding → Adding
 unless true v rest = rest
 unless false v rest = v
 
--- 15 "kind already added" (or no place is left, which four kinds rule out); else it stands behind the others
+-- 15 "kind already added" (or no place is left, which four kinds rule out: `Four`); else it stands behind the others
 unfoldable pub putOf : Detectors → Detector → Adding
 putOf s d =
     unless (allTo (otherAt (s .slots) d) (s .count)) (left 15 s)

@@ -6,7 +6,8 @@ ghost use lib.ListN.{length};
 ghost use lib.Dec.{eqb};
 ghost use Rattle.lists.specs.All.{allTo};
 ghost use Rattle.slots.specs.Limits.{places, part};
-ghost use Rattle.slots.specs.Slots.{detectorIn, kindNumber, detectorAt, inAt, otherAt, freshAt, setOk, kindsOf, Ready, stepped, stepOf, placeOf};
+ghost use Rattle.drift.specs.Drift.{driftMove};
+ghost use Rattle.slots.specs.Slots.{detectorIn, kindNumber, detectorAt, inAt, otherAt, freshAt, setOk, kindsOf, Ready, stepped, byDrift, stepOf, placeOf};
 ghost use Rattle.slots.specs.Adding.{noDetectors, configAccepted, madeOf, adding, addOf, putOf};
 ghost use Rattle.slots.specs.Batches.{toldOf, nothing, pushed, Numbers};
 ghost use Rattle.slots.specs.Judging.{round, oneOf, judgeTo, AllReady, paper, verdictOf, outcome, judgeOf};
@@ -18,6 +19,7 @@ use detectors::presence::PresenceState;
 use detectors::quality::QualityConfig;
 use detectors::quality::QualityState;
 use drift::BaselineDriftConfig;
+use drift::DriftReply;
 use drift::DriftState;
 use rvcsi_core::event::CsiEvent;
 use rvcsi_core::event::CsiEventKind;
@@ -124,17 +126,32 @@ fn step(d: Detector, w: CsiWindow, mean_amplitude: &[f32], baseline: &mut [f32])
                 second,
             }
         }
-        Detector::Drift(c, s) => {
-            let m = drift::moved(c, s, mean_amplitude, baseline);
-            let t = m.state;
-            let first = m.first;
-            let second = m.second;
-            Stepped {
-                detector: Detector::Drift(c, t),
-                first,
-                second,
-            }
-        }
+        Detector::Drift(c, s) => step_drift(c, s, mean_amplitude, baseline),
+    }
+}
+
+// One window of a drift detector. No refusal comes: each was asked before.
+fn step_drift(
+    c: BaselineDriftConfig,
+    s: DriftState,
+    mean_amplitude: &[f32],
+    baseline: &mut [f32],
+) -> Stepped
+    requires { ⌜ Ready (Detector.Drift c s) (length (now «mean_amplitude»)) (length (now baseline)) ⌝ }
+    ensures { λ r. ⌜ stepped r (now (baseline .exit)) ≡ byDrift c (driftMove c s (now («mean_amplitude» .entry)) (now (baseline .entry))) ⌝ }
+{
+    let DriftReply::Judged(t, first, second) = drift::on_window(c, s, mean_amplitude, baseline)
+    else {
+        return Stepped {
+            detector: Detector::Drift(c, s),
+            first: Judgement::Quiet,
+            second: Judgement::Quiet,
+        };
+    };
+    Stepped {
+        detector: Detector::Drift(c, t),
+        first,
+        second,
     }
 }
 

@@ -40,12 +40,17 @@ struct Maker {
 }
 
 impl Maker {
-    fn new(new: New) -> Maker {
-        let mut m = Maker {
+    /// What stands at the start of a script.
+    fn fresh() -> Maker {
+        Maker {
             script: vec![],
             engine: Engine::new(Wrong::Nothing),
             reply: String::new(),
-        };
+        }
+    }
+
+    fn new(new: New) -> Maker {
+        let mut m = Maker::fresh();
         m.push(Command::New(new));
         m
     }
@@ -469,7 +474,7 @@ fn states(rng: &mut Rng, out: &mut Vec<Tagged>) {
         out.push(m.done("states out of range"));
     }
     // Values just in range.
-    for i in 0..40 {
+    for i in 0..44 {
         let mut m = prepared(rng);
         let b = &m.engine.buffer;
         let held = [
@@ -513,6 +518,11 @@ fn states(rng: &mut Rng, out: &mut Vec<Tagged>) {
             (26, 0, (1 << 32) + 0x7fc0_0000),
             (27, 0, 0x7fc0_0000),
             (28, 0, (263 << 32) + 0x7fc0_0000),
+            // Behind the pending frames nothing is looked at.
+            (9, b.pending as u8, 0x7fc0_0000),
+            (9, 15, 0x7f80_0000),
+            (10, b.pending as u8, bits(-1.0) as u64),
+            (10, 15, 0x7fc0_0000),
         ][i];
         m.forge(held.0, held.1, held.2);
         m.look();
@@ -1023,6 +1033,16 @@ fn counters(rng: &mut Rng, out: &mut Vec<Tagged>) {
             out.push(m.done("counters"));
         }
     }
+    // A flush at each event number.
+    for event in events {
+        let mut m = Maker::new(default_new());
+        m.add_all();
+        m.frame(frame(1, 0.9, &[1.0], &[0.0], &[]));
+        m.forge(1, 0, event);
+        m.push(Command::Flush);
+        m.look();
+        out.push(m.done("counters"));
+    }
     // Recent windows: 31, 32, 33 and many.
     for windows in [1u64, 31, 32, 33, 34, 70] {
         let mut m = Maker::new(New {
@@ -1096,6 +1116,121 @@ fn streaks(rng: &mut Rng, out: &mut Vec<Tagged>) {
     }
 }
 
+/// What a script finds at its start, and after a *new*: all is fresh, whatever was left.
+fn starts(out: &mut Vec<Tagged>) {
+    let own = |time: u64| Frame {
+        session: 0,
+        source: 0,
+        ..frame(time, 0.25, &[2.0 + time as f32], &[0.5], &[])
+    };
+    for k in 0..5 {
+        let mut short = NEEDED.map(|n| n as u32);
+        short[k] -= 1;
+        let mut m = Maker::fresh();
+        m.look();
+        m.frame(own(1));
+        m.add_all();
+        m.frame(own(999_999_999));
+        m.look();
+        m.frame(own(1_000_000_001));
+        m.push(Command::Lend(short));
+        m.forge(0, 0, 5);
+        m.forge(1, 0, 6);
+        m.push(Command::New(default_new()));
+        m.look();
+        m.frame(frame(1, 0.9, &[1.0], &[0.0], &[]));
+        m.push(Command::Flush);
+        m.push(Command::Lend(short));
+        m.forge(0, 0, 7);
+        m.forge(1, 0, 8);
+        out.push(m.done("starts"));
+    }
+}
+
+/// Sums whose order decides: large numbers whose squares sum to that of an odd number of 25 bits, so that the root is a tie of f32, and small ones
+/// whose squares are lost one by one behind the large, and count where they are summed before them.
+fn sums(rng: &mut Rng, out: &mut Vec<Tagged>) {
+    for large_first in [true, false] {
+        let ordered = |mut list: Vec<f32>| -> Vec<f32> {
+            if !large_first {
+                list.reverse();
+            }
+            list
+        };
+        for _ in 0..4 {
+            // 3k, 4k, 5k; 5k is 1 more than a multiple of 4, so the tie goes down. The factor keeps distances below the largest threshold.
+            let k = 4 * rng.from_to(838_861, 1_048_575) + 1;
+            let (a, b) = ((3 * k) as f32 / 1024.0, (4 * k) as f32 / 1024.0);
+            let tie = ((5 * k - 1) as f32) / 4096.0;
+            let small = 0.17f32 / 1024.0;
+            let mut list = vec![a, b];
+            list.extend([small; 14]);
+            let list = ordered(list);
+            let mut iq = vec![a, b];
+            iq.extend((0..15).flat_map(|_| [small, 0.0]));
+            let mut full = vec![a, b];
+            full.extend([small; 30]);
+            out.push(summed(&list, &ordered(iq), &full, tie));
+            // The root mean square of a baseline: a distance relative to it, at the anomaly threshold and a float above it.
+            let further: Vec<f32> = list.iter().map(|x| 2.5 * x).collect();
+            let distance = relative(&list, &further, 1000.0).1.expect("measured");
+            for anomaly in [distance, distance.next_down()] {
+                out.push(relative(&list, &further, anomaly).0);
+            }
+        }
+        // The steps of a window: 2^24 and 1, and six that are lost behind them.
+        let step = 1.7e-9f32;
+        let mut levels = vec![16_777_215.0, 16_777_216.0];
+        levels.extend([0.0, step, 0.0, step, 0.0, step, 0.0]);
+        let mut m = Maker::new(New {
+            max_frames: 9,
+            ..default_new()
+        });
+        for (t, x) in ordered(levels).into_iter().enumerate() {
+            m.frame(frame(t as u64, 0.9, &[x], &[0.0], &[1.0, 0.0]));
+        }
+        out.push(m.done("sums"));
+    }
+}
+
+/// The list as numbers of a scale, as a step and as a distance from a baseline of zeros; the pairs as numbers of a scale.
+fn summed(list: &[f32], iq: &[f32], full: &[f32], tie: f32) -> Tagged {
+    let zeros = [0.0; 16];
+    let mut m = Maker::new(New {
+        max_frames: 2,
+        ..default_new()
+    });
+    m.add(3, [bits(0.15), 1000, bits(tie), bits(0.1)]);
+    let windows: [[(&[f32], &[f32]); 2]; 5] = [
+        [(&zeros, &[]), (&zeros, &[])],
+        [(list, &[]), (list, &[])],
+        [(&zeros, &[1.0, 0.0]), (list, &[1.0, 0.0])],
+        [(list, iq), (list, iq)],
+        [(list, full), (list, full)],
+    ];
+    for (w, frames) in windows.iter().enumerate() {
+        for (j, (amplitude, pairs)) in frames.iter().enumerate() {
+            m.frame(frame(2 * w as u64 + j as u64, 0.9, amplitude, &zeros, pairs));
+            m.look();
+        }
+    }
+    m.done("sums")
+}
+
+/// A window of one list, then of another, and the distance that was measured.
+fn relative(list: &[f32], further: &[f32], anomaly: f32) -> (Tagged, Option<f32>) {
+    let mut m = Maker::new(New {
+        max_frames: 2,
+        ..default_new()
+    });
+    m.add(3, [bits(0.15), 1000, bits(anomaly), bits(0.1)]);
+    for (t, l) in [list, list, further, further].into_iter().enumerate() {
+        m.frame(frame(t as u64, 0.9, l, &[0.0; 16], &[]));
+    }
+    let distance = m.engine.distance;
+    (m.done("sums"), distance)
+}
+
 /// The enumerated scripts.
 pub fn enumerated(seed: u64) -> Vec<Tagged> {
     let mut rng = Rng::new(seed ^ 0x5eed);
@@ -1109,6 +1244,8 @@ pub fn enumerated(seed: u64) -> Vec<Tagged> {
     values(&mut rng, &mut out);
     counters(&mut rng, &mut out);
     streaks(&mut rng, &mut out);
+    starts(&mut out);
+    sums(&mut rng, &mut out);
     out
 }
 

@@ -1,6 +1,6 @@
 -- `limits_ok` meets its contract.
 use borrow.Author.Needs.{needs}
-use Rattle.rvcsi_core.proofs.Tested.{passed, failed}
+use Rattle.lists.proofs.Tests.{passed, failed}
 use Rattle.detectors.specs.Common.{limitsOk}
 use Rattle.detectors.proofs.limits_ok.Statement.{statement}
 use Rattle.detectors.proofs.limits_ok.Tie as tie

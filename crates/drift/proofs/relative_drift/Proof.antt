@@ -32,7 +32,7 @@ relative-requires : tie.Need-relative-requires
 relative-requires c κs = search needs
 
 returns-2 : tie.Need-returns-2
-returns-2 c = law.some _ _ (c .before .before .before .before .before .before .before .if1 .left) _ _ _ _ _ _ (c .before .before .before .before .before .root .ensures) (c .before .before .before .before .squares-away .ensures) (c .before .before .before .root-over .ensures) (c .before .before .squares .ensures) (c .before .root-over2 .ensures) (c .relative .ensures)
+returns-2 c = law.some _ _ (c .before .before .before .before .before .before .before .if1 .left) (omega arith) _ _ _ _ _ _ (c .before .before .before .before .before .root .ensures) (c .before .before .before .before .squares-away .ensures) (c .before .before .before .root-over .ensures) (c .before .before .squares .ensures) (c .before .root-over2 .ensures) (c .relative .ensures)
 
 pub relative-drift-spec : {M : Type 1} → statement M
 relative-drift-spec =

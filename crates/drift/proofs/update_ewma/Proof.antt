@@ -1,6 +1,6 @@
 -- `update_ewma` meets its contract. Assumes nothing.
 use Rattle.drift.specs.Drift.{smoothed}
-use Rattle.lists.proofs.Tab.{Over, over-none, over-more, over-done, over-next}
+use Rattle.lists.proofs.Tab.{Over, over-none, over-step, over-done}
 use lib.Ieee.{nan}
 use lib.ListN.{length}
 use borrow.Author.Needs.{needs}
@@ -43,7 +43,7 @@ loop-less : tie.Need-loop-less Inv-loop μ-loop
 loop-less c = search needs
 
 loop-again : tie.Need-loop-again Inv-loop μ-loop
-loop-again c = (omega arith, over-more (c .before .before .before .loop .inv .1) (omega arith) (rw (over-next nan (c .before .before .before .loop .inv .1) (omega arith))))
+loop-again c = (omega arith, over-step nan (c .before .before .before .loop .inv .1) (omega arith) (λ e. rw e))
 
 same-length : tie.Need-same-length Inv-loop μ-loop
 same-length c = omega arith

@@ -1,6 +1,6 @@
 -- `motion::accepted` meets its contract.
 use borrow.Author.Needs.{needs}
-use Rattle.rvcsi_core.proofs.Tested.{passed, failed}
+use Rattle.lists.proofs.Tests.{passed, failed}
 use Rattle.detectors.specs.Motion.{motionAccepted}
 use Rattle.detectors.proofs.motion.accepted.Statement.{statement}
 use Rattle.detectors.proofs.motion.accepted.Tie as tie

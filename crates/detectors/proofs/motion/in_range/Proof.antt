@@ -1,5 +1,5 @@
 -- `motion::in_range` meets its contract.
-use Rattle.rvcsi_core.proofs.Tested.{passed, failed}
+use Rattle.lists.proofs.Tests.{passed, failed}
 use Rattle.detectors.specs.Motion.{motionIn}
 use borrow.Author.Needs.{needs}
 use Rattle.detectors.proofs.motion.in_range.Statement.{statement}

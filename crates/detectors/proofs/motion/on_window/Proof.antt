@@ -1,8 +1,7 @@
 -- `motion::on_window` meets its contract.
 use borrow.Author.Needs.{needs}
-use Rattle.rvcsi_core.proofs.Tested.{passed, failed}
+use Rattle.lists.proofs.Tests.{passed, failed}
 use Rattle.detectors.specs.Motion.{motionStep}
-use Rattle.detectors.proofs.Ranges.{motion-below}
 use Rattle.detectors.proofs.motion.on_window.Statement.{statement}
 use Rattle.detectors.proofs.motion.on_window.Tie as tie
 
@@ -14,7 +13,7 @@ unfolding motionStep
 returns c = rw (failed (c .before .in-range .ensures) (c .if1 .taken))
 
 moved-requires : tie.Need-moved-requires
-moved-requires c κs = motion-below _ _ (passed (c .before .in-range .ensures) (c .if1 .left))
+moved-requires c κs = search needs
 
 returns-2 : tie.Need-returns-2
 unfolding motionStep

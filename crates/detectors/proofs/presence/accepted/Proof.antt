@@ -1,6 +1,6 @@
 -- `presence::accepted` meets its contract.
 use borrow.Author.Needs.{needs}
-use Rattle.rvcsi_core.proofs.Tested.{passed, failed}
+use Rattle.lists.proofs.Tests.{passed, failed}
 use Rattle.detectors.specs.Presence.{presenceAccepted}
 use Rattle.detectors.proofs.presence.accepted.Statement.{statement}
 use Rattle.detectors.proofs.presence.accepted.Tie as tie

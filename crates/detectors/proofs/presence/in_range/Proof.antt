@@ -1,5 +1,5 @@
 -- `presence::in_range` meets its contract.
-use Rattle.rvcsi_core.proofs.Tested.{passed, failed}
+use Rattle.lists.proofs.Tests.{passed, failed}
 use Rattle.detectors.specs.Presence.{presenceIn}
 use borrow.Author.Needs.{needs}
 use Rattle.detectors.proofs.presence.in_range.Statement.{statement}

@@ -1,7 +1,7 @@
 -- `presence::with_config` meets its contract.
 use borrow.Author.Needs.{needs}
 use Rattle.detectors.specs.Presence.{presenceNew}
-use Rattle.rvcsi_core.proofs.Tested.{passed, failed}
+use Rattle.lists.proofs.Tests.{passed, failed}
 use Rattle.detectors.proofs.presence.with_config.Statement.{statement}
 use Rattle.detectors.proofs.presence.with_config.Tie as tie
 

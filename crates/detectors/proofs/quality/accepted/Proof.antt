@@ -1,6 +1,6 @@
 -- `quality::accepted` meets its contract.
 use borrow.Author.Needs.{needs}
-use Rattle.rvcsi_core.proofs.Tested.{passed, failed}
+use Rattle.lists.proofs.Tests.{passed, failed}
 use Rattle.detectors.specs.Quality.{qualityAccepted}
 use Rattle.detectors.proofs.quality.accepted.Statement.{statement}
 use Rattle.detectors.proofs.quality.accepted.Tie as tie

@@ -1,5 +1,5 @@
 -- `quality::in_range` meets its contract.
-use Rattle.rvcsi_core.proofs.Tested.{passed, failed}
+use Rattle.lists.proofs.Tests.{passed, failed}
 use Rattle.detectors.specs.Quality.{qualityIn}
 use borrow.Author.Needs.{needs}
 use Rattle.detectors.proofs.quality.in_range.Statement.{statement}

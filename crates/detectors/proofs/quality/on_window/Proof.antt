@@ -1,8 +1,7 @@
 -- `quality::on_window` meets its contract.
 use borrow.Author.Needs.{needs}
-use Rattle.rvcsi_core.proofs.Tested.{passed, failed}
+use Rattle.lists.proofs.Tests.{passed, failed}
 use Rattle.detectors.specs.Quality.{qualityStep}
-use Rattle.detectors.proofs.Ranges.{quality-within}
 use Rattle.detectors.proofs.quality.on_window.Statement.{statement}
 use Rattle.detectors.proofs.quality.on_window.Tie as tie
 
@@ -14,7 +13,7 @@ unfolding qualityStep
 returns c = rw (failed (c .before .in-range .ensures) (c .if1 .taken))
 
 moved-requires : tie.Need-moved-requires
-moved-requires c κs = quality-within _ _ (passed (c .before .in-range .ensures) (c .if1 .left))
+moved-requires c κs = search needs
 
 returns-2 : tie.Need-returns-2
 unfolding qualityStep

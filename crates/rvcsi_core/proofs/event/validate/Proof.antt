@@ -1,6 +1,6 @@
 -- `validate` of an event meets its contract.
 use Rattle.rvcsi_core.specs.Event.{eventValidityOf}
-use Rattle.rvcsi_core.proofs.Tested.{passed, failed}
+use Rattle.lists.proofs.Tests.{passed, failed}
 use borrow.Author.Needs.{needs}
 use Rattle.rvcsi_core.proofs.event.validate.Statement.{statement}
 use Rattle.rvcsi_core.proofs.event.validate.Tie as tie
