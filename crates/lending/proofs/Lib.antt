@@ -1,0 +1,2 @@
+-- The numbers of a caller that lends its counters.
+pub mod Made

@@ -1,0 +1,2 @@
+-- A number of each kind.
+pub mod Each
