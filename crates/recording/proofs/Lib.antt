@@ -1,0 +1,3 @@
+-- Laws of reading a recording.
+pub mod Moved
+pub mod Hearing

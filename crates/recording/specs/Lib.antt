@@ -1,0 +1,3 @@
+-- What reading a recording promises by.
+pub mod Place
+pub mod Heard
