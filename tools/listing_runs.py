@@ -3,8 +3,9 @@
 each listing with model.py's. PROGRAM.. is the command to which a recording's name is added. The last line is 'N passed, M failed'.
 
 A recording has frames that are taken and frames that replies 2, 3, 4, 6 and 7 skip, in records of 10 to 4,135 bytes; every third is
-several times as long as the program's buffer. Damage: bits turned, bytes put in, left out or doubled, cuts anywhere and at the ends of
-the buffer, counts and flags too large, numbers not in their shortest form, and bytes from nowhere.
+several times as long as the program's buffer. A few have the longest records, laid so that the bytes held end just before one does.
+Damage: bits turned, bytes put in, left out or doubled, cuts anywhere and at the ends of the buffer, counts and flags too large, numbers
+not in their shortest form, and bytes from nowhere.
 """
 import argparse
 import io
@@ -60,6 +61,13 @@ def frames(r, most):
     return out
 
 
+def edge(m):
+    """Records of 4,135 bytes, the longest, behind one with m pairs: for m from 237 to 241 the bytes held end 4 to 36 before the third of them does."""
+    def longest(time, pairs):
+        return record(LAST - 10 ** 10 + time, 0.9, [4.0] * 256, [0.5] * 256, [(3.0, 4.0)] * pairs, session=LAST, source=LAST)
+    return longest(0, m) + b''.join(longest(t * 10 ** 8, 256) for t in range(1, 9))
+
+
 def header(fields):
     return b''.join(map(number, fields))
 
@@ -109,7 +117,12 @@ def main():
         path = os.path.join(folder, 'recording')
         for i in range(words.runs):
             r = random.Random(f'{words.seed} {i}')
-            data = b'' if i == 0 else damaged(r, frames(r, r.choice([20, 900, 5000]) if i % 3 else 60000), i % 12)
+            if i == 0:
+                data = b''
+            elif i < 6:
+                data = edge(236 + i)
+            else:
+                data = damaged(r, frames(r, r.choice([20, 900, 5000]) if i % 3 else 60000), i % 12)
             with open(path, 'wb') as f:
                 f.write(data)
             want = io.StringIO()
