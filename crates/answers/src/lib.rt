@@ -1,5 +1,6 @@
 // The lines of an answer. They go into 65,536 bytes that the caller lends, from place `at`; each function returns the place after what it
 // put there. When the bytes are full they are written to standard output.
+#![tactic(auto)]
 ghost use Rattle.std.specs.Prelude.{◌≡◌, ◌≤◌, length, take};
 
 use rvcsi_core::event::{CsiEvent, CsiEventKind};

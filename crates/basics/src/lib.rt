@@ -1,4 +1,5 @@
 // What every crate names: the limits of 01 here, replies on paper in specs/, the laws of tests in proofs/. It has no function.
+#![tactic(auto)]
 
 // The most values of a list, and the places of a row of a store: 0 to 256 subcarriers.
 pub const MOST_VALUES: usize = 256;

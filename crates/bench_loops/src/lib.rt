@@ -1,5 +1,6 @@
 // Loops over the calls that bench/ measures, for its driver to link. Each answers every input; what it returns lets the driver compare its work with the Rust's.
 // `process_frame` is called in one place, as in a program: the compiler then sees the whole path of a frame at once.
+#![tactic(auto)]
 ghost use Rattle.std.specs.Prelude.{◌≡◌, ◌≤◌, length, take};
 
 use pipeline::{EventPipeline, Processed};
@@ -43,7 +44,7 @@ fn fitting(n: usize, list: &[f32]) -> usize
 }
 
 // The counters and the pipeline between two frames.
-#[derive(Drop)]
+#[derive(Clone, Copy)]
 struct Course {
     ids: Ids,
     pipeline: EventPipeline,
@@ -128,7 +129,7 @@ fn from<'a>(
 }
 
 // Where the next frame stands, in all and in each list.
-#[derive(Drop)]
+#[derive(Clone, Copy)]
 struct Place {
     frame: usize,
     at: usize,

@@ -4,7 +4,7 @@ ghost use Rattle.detectors.specs.Hysteresis.{for, moved};
 ghost use Rattle.detectors.specs.Latch.{latched};
 
 // Which way the switch went at a window, if it did.
-#[derive(Drop)]
+#[derive(Clone, Copy)]
 pub enum Turn {
     Still,
     Rose,
@@ -12,7 +12,7 @@ pub enum Turn {
 }
 
 // The switch after a window.
-#[derive(Drop)]
+#[derive(Clone, Copy)]
 pub struct Latch {
     pub on: bool,
     pub streak: u32,

@@ -1,5 +1,6 @@
 // Three of the four detectors: presence, motion and quality. Settings and states travel by value; each module has the detector's settings, its state,
 // `default`, `accepted`, `with_config`, `in_range`, `moved` and `on_window`. What the drift detector shares with them stands here.
+#![tactic(auto)]
 ghost use Rattle.std.specs.Prelude.{◌≡◌};
 ghost use Rattle.detectors.specs.Common.{limits_ok, counts_ok, over_twice};
 
@@ -9,7 +10,7 @@ pub mod presence;
 pub mod quality;
 
 // What a detector says of one window: nothing, or an event of a kind with its confidence.
-#[derive(Drop)]
+#[derive(Clone, Copy)]
 pub enum Judgement {
     Quiet,
     PresenceStarted(f32),

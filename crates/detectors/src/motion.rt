@@ -5,35 +5,35 @@ ghost use Rattle.detectors.specs.Motion.{motion_default, motion_accepted, motion
 use crate::Judgement;
 use crate::hysteresis::Turn;
 
-#[derive(Drop)]
+#[derive(Clone, Copy)]
 pub struct MotionConfig {
     pub on_threshold: f32,
     pub off_threshold: f32,
     pub debounce_windows: u32,
 }
 
-#[derive(Drop)]
+#[derive(Clone, Copy)]
 pub struct MotionState {
     pub moving: bool,
     pub streak: u32,
 }
 
 // The state after a window, and what is said of it.
-#[derive(Drop)]
+#[derive(Clone, Copy)]
 pub struct MotionMoved {
     pub state: MotionState,
     pub said: Judgement,
 }
 
 // Reply 0 with the fresh state, or 1.
-#[derive(Drop)]
+#[derive(Clone, Copy)]
 pub enum MotionMade {
     Fresh(MotionState),
     NotAccepted,
 }
 
 // Reply 0 with the state after the window and the judgement, or 14.
-#[derive(Drop)]
+#[derive(Clone, Copy)]
 pub enum MotionReply {
     Judged(MotionState, Judgement),
     OutOfRange,

@@ -5,7 +5,7 @@ ghost use Rattle.detectors.specs.Presence.{presence_default, presence_accepted, 
 use crate::Judgement;
 use crate::hysteresis::Turn;
 
-#[derive(Drop)]
+#[derive(Clone, Copy)]
 pub struct PresenceConfig {
     pub on_threshold: f32,
     pub off_threshold: f32,
@@ -13,28 +13,28 @@ pub struct PresenceConfig {
     pub exit_windows: u32,
 }
 
-#[derive(Drop)]
+#[derive(Clone, Copy)]
 pub struct PresenceState {
     pub present: bool,
     pub streak: u32,
 }
 
 // The state after a window, and what is said of it.
-#[derive(Drop)]
+#[derive(Clone, Copy)]
 pub struct PresenceMoved {
     pub state: PresenceState,
     pub said: Judgement,
 }
 
 // Reply 0 with the fresh state, or 1.
-#[derive(Drop)]
+#[derive(Clone, Copy)]
 pub enum PresenceMade {
     Fresh(PresenceState),
     NotAccepted,
 }
 
 // Reply 0 with the state after the window and the judgement, or 14.
-#[derive(Drop)]
+#[derive(Clone, Copy)]
 pub enum PresenceReply {
     Judged(PresenceState, Judgement),
     OutOfRange,

@@ -4,14 +4,14 @@ ghost use Rattle.detectors.specs.Quality.{quality_default, quality_accepted, qua
 
 use crate::Judgement;
 
-#[derive(Drop)]
+#[derive(Clone, Copy)]
 pub struct QualityConfig {
     pub drop_threshold: f32,
     pub debounce_windows: u32,
     pub calib_windows: u32,
 }
 
-#[derive(Drop)]
+#[derive(Clone, Copy)]
 pub struct QualityState {
     pub low_streak: u32,
     pub dropped_emitted: bool,
@@ -19,7 +19,7 @@ pub struct QualityState {
 }
 
 // The state after a window, and what is said of it, in this order.
-#[derive(Drop)]
+#[derive(Clone, Copy)]
 pub struct QualityMoved {
     pub state: QualityState,
     pub first: Judgement,
@@ -27,14 +27,14 @@ pub struct QualityMoved {
 }
 
 // Reply 0 with the fresh state, or 1.
-#[derive(Drop)]
+#[derive(Clone, Copy)]
 pub enum QualityMade {
     Fresh(QualityState),
     NotAccepted,
 }
 
 // Reply 0 with the state after the window and the two judgements, or 14.
-#[derive(Drop)]
+#[derive(Clone, Copy)]
 pub enum QualityReply {
     Judged(QualityState, Judgement, Judgement),
     OutOfRange,

@@ -1,4 +1,5 @@
 // Baseline drift: the mean list of a window against a baseline, which stands in a lent store from place 0.
+#![tactic(auto)]
 ghost use Rattle.std.specs.Prelude.{◌≡◌, ◌≤◌, ◌<◌, length};
 ghost use Rattle.std.specs.Float.{binary32, binary64};
 ghost use Rattle.std.specs.Float.Ieee.{div};
@@ -16,7 +17,7 @@ const MOST: usize = 256;
 // A baseline RMS up to this is taken for none: the distance is absolute.
 const FLAT: f32 = 0.001;
 
-#[derive(Drop)]
+#[derive(Clone, Copy)]
 pub struct BaselineDriftConfig {
     pub drift_threshold: f32,
     pub drift_windows: u32,
@@ -25,20 +26,20 @@ pub struct BaselineDriftConfig {
 }
 
 // The baseline's length, once there is one.
-#[derive(Drop)]
+#[derive(Clone, Copy)]
 pub enum Baseline {
     Unset,
     Set(usize),
 }
 
-#[derive(Drop)]
+#[derive(Clone, Copy)]
 pub struct DriftState {
     pub baseline: Baseline,
     pub drift_streak: u32,
 }
 
 // The state after a window, and what is said of it: an anomaly first, then a changed baseline.
-#[derive(Drop)]
+#[derive(Clone, Copy)]
 pub struct DriftMoved {
     pub state: DriftState,
     pub first: Judgement,
@@ -46,14 +47,14 @@ pub struct DriftMoved {
 }
 
 // Reply 0 with the fresh state, or 1.
-#[derive(Drop)]
+#[derive(Clone, Copy)]
 pub enum DriftMade {
     Fresh(DriftState),
     NotAccepted,
 }
 
 // Reply 0 with the state after the window and the two judgements, or 13, 14, 5.
-#[derive(Drop)]
+#[derive(Clone, Copy)]
 pub enum DriftReply {
     Judged(DriftState, Judgement, Judgement),
     StoreShort,

@@ -1,4 +1,5 @@
 // The window and event counters, lent and advanced in place: thin functions over those that take and return the counters by value.
+#![tactic(auto)]
 ghost use Rattle.std.specs.Prelude.{◌≡◌};
 ghost use Rattle.rvcsi_core.specs.Counters.{minted, next_window, next_event};
 ghost use Rattle.pipeline.specs.Process.{process_of, flush_of};
@@ -31,7 +32,7 @@ pub fn next_event(ids: &mut Ids) -> Taken
 }
 
 // The reply, the pipeline, and the events of the window that closed; the counters stay behind the reference.
-#[derive(Drop)]
+#[derive(Clone, Copy)]
 pub struct Answered {
     pub reply: Reply,
     pub pipeline: EventPipeline,

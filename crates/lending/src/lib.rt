@@ -1,11 +1,12 @@
 // A caller of the lent counters: it holds them in a local and lends them for each number.
+#![tactic(auto)]
 ghost use Rattle.std.specs.Prelude.{◌≡◌};
 ghost use Rattle.lending.specs.Each.{each_of};
 
 use rvcsi_core::ids::{Ids, Taken};
 
 // A number of each kind, and the counters after both.
-#[derive(Drop)]
+#[derive(Clone, Copy)]
 pub struct Each {
     pub window: Taken,
     pub event: Taken,

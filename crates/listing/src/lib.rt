@@ -1,4 +1,5 @@
 // The listing of a run, on bytes alone: its heading, a line for an event, a refusal and the end, and the counts that the end line gives.
+#![tactic(auto)]
 ghost use Rattle.std.specs.Prelude.{◌≡◌, ◌+◌, ◌<◌, ◌≤◌, length, drop};
 ghost use Rattle.std.proofs.lemmas.List.Edits.{sets};
 ghost use Rattle.listing.specs.Text.{digits, trimmed};
@@ -168,7 +169,7 @@ pub fn end_line(out: &mut [u8; LINE], c: Counts) -> usize
 
 // ---- counts
 
-#[derive(Drop)]
+#[derive(Clone, Copy)]
 pub struct Counts {
     pub accepted: u64,
     pub windows: u64,

@@ -1,4 +1,5 @@
 // Loops over lent lists that several crates need. Each answers every input.
+#![tactic(auto)]
 
 ghost use Rattle.std.specs.Prelude.{◌≡◌, ◌&&◌, min, length};
 ghost use Rattle.std.specs.Float.{binary64};

@@ -1,4 +1,5 @@
 // The logistic table and the score of a float by it: whole-number arithmetic, so that every machine gives the same bits.
+#![tactic(auto)]
 mod table;
 
 ghost use Rattle.std.specs.Prelude.{◌≡◌, ◌<◌, ◌≤◌, true, false, T};
@@ -8,7 +9,7 @@ ghost use Rattle.logistic.specs.Score.{entry_at, units_at, u_of, sixteen, score_
 use table::TABLE;
 
 // The score, or the refusal of a NaN: reply 6, place 0.
-#[derive(Drop)]
+#[derive(Clone, Copy)]
 pub enum Logistic {
     Score(f32),
     NotANumber,

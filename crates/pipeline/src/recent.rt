@@ -8,7 +8,7 @@ use rvcsi_core::window::CsiWindow;
 pub const RECENT_WINDOW_CAP: usize = 32;
 
 // The scalar fields of the newest windows, oldest first: the first `count` places.
-#[derive(Drop)]
+#[derive(Clone, Copy)]
 pub struct Recent {
     pub windows: [CsiWindow; RECENT_WINDOW_CAP],
     pub count: usize,

@@ -1,5 +1,6 @@
 // Runs the cases of data/vectors through the reader and the writer, and compares reply, place, header, lists and bytes.
 // tools/record_vectors.py makes them, and says how a case is laid out.
+#![tactic(auto)]
 ghost use Rattle.std.specs.Prelude.{◌≡◌, ◌+◌, ◌*◌, ◌<◌, ◌≤◌};
 
 use libc::STDOUT_FILENO;

@@ -1,4 +1,5 @@
 // A recording as it is read: a bounded buffer over an open file, and the record at a place of it.
+#![tactic(auto)]
 ghost use Rattle.std.specs.Prelude.{◌≡◌, ◌-◌, min, length, take, drop};
 ghost use Rattle.records.specs.Answers.{paper};
 ghost use Rattle.recording.specs.Place.{place_of};
@@ -13,7 +14,7 @@ const LONGEST: usize = 4135;
 pub const HELD: usize = 16384;
 
 // Where reading stands: the first `have` bytes of the buffer are at hand, the next record begins at `at`, and the buffer's first byte is the input's byte `base`.
-#[derive(Drop)]
+#[derive(Clone, Copy)]
 pub struct Cursor {
     pub base: u64,
     pub at: usize,

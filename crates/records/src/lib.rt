@@ -1,4 +1,5 @@
 // The recording format, on bytes alone: a record's reader and writer.
+#![tactic(auto)]
 ghost use Rattle.std.specs.Prelude.{◌≡◌, ◌+◌, ◌*◌, ◌<◌, ◌≤◌, length, drop, get_or};
 ghost use Rattle.std.proofs.lemmas.List.Edits.{sets};
 ghost use Rattle.records.specs.Numbers.{number_in, number_bytes};
@@ -8,7 +9,7 @@ ghost use Rattle.records.specs.Answers.{paper, paper_wrote, fault_number, read, 
 ghost use Rattle.records.specs.Parts.{field_read, head_read, float_at, floats_at};
 
 // The fields of a record but its lists. A float is its bits.
-#[derive(Drop)]
+#[derive(Clone, Copy)]
 pub struct Header {
     pub session: u64,
     pub source: u64,
@@ -20,7 +21,7 @@ pub struct Header {
 }
 
 // Why a field is refused.
-#[derive(Drop)]
+#[derive(Clone, Copy)]
 pub enum Fault {
     // The bytes end within the field: reply 9.
     Cut,
@@ -32,7 +33,7 @@ pub enum Fault {
     Flag,
 }
 
-#[derive(Drop)]
+#[derive(Clone, Copy)]
 pub enum ReadRecord {
     // Reply 0 with a record, and the place after it.
     Record { header: Header, next: usize },
@@ -44,7 +45,7 @@ pub enum ReadRecord {
     Refused { fault: Fault, offset: usize },
 }
 
-#[derive(Drop)]
+#[derive(Clone, Copy)]
 pub enum Wrote {
     // Reply 0: the place after the record.
     Written(usize),
@@ -68,14 +69,14 @@ pub fn fault_number(fault: Fault) -> u64
 
 // ---- reading
 // What reading one number finds.
-#[derive(Drop)]
+#[derive(Clone, Copy)]
 enum FieldRead {
     Value { value: u64, next: usize },
     No(Fault),
 }
 
 // What reading the six numbers of a record finds.
-#[derive(Drop)]
+#[derive(Clone, Copy)]
 enum HeadRead {
     // The quality is still 0.
     Head { header: Header, next: usize },

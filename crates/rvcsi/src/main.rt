@@ -1,4 +1,5 @@
 // Reads the recording that its one argument names, or standard input where it has none, and writes its listing.
+#![tactic(auto)]
 use libc::STDIN_FILENO;
 
 // The file named by the argument.

@@ -2,7 +2,7 @@
 ghost use Rattle.std.specs.Prelude.{◌≡◌};
 ghost use Rattle.rvcsi_core.specs.Event.{event_validity_of};
 
-#[derive(Drop)]
+#[derive(Clone, Copy)]
 pub enum CsiEventKind {
     PresenceStarted,
     PresenceEnded,
@@ -14,7 +14,7 @@ pub enum CsiEventKind {
     CalibrationRequired,
 }
 
-#[derive(Drop)]
+#[derive(Clone, Copy)]
 pub struct CsiEvent {
     pub event_id: u64,
     pub kind: CsiEventKind,
@@ -25,7 +25,7 @@ pub struct CsiEvent {
     pub window_id: u64,
 }
 
-#[derive(Drop)]
+#[derive(Clone, Copy)]
 pub enum EventValidity {
     Valid,
     ConfidenceOutOfRange(f32),

@@ -2,7 +2,7 @@
 ghost use Rattle.std.specs.Prelude.{◌≡◌};
 ghost use Rattle.rvcsi_core.specs.Frame.{exposable};
 
-#[derive(Drop)]
+#[derive(Clone, Copy)]
 pub struct CsiFrame {
     pub session_id: u64,
     pub source_id: u64,

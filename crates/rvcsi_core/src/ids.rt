@@ -2,20 +2,20 @@
 ghost use Rattle.std.specs.Prelude.{◌≡◌};
 ghost use Rattle.rvcsi_core.specs.Counters.{fresh_ids, next_window, next_event};
 
-#[derive(Drop)]
+#[derive(Clone, Copy)]
 pub struct Ids {
     pub window: u64,
     pub event: u64,
 }
 
 // A number handed out, or none: 2^64 - 1 itself is never given.
-#[derive(Drop)]
+#[derive(Clone, Copy)]
 pub enum Taken {
     Number(u64),
     Full,
 }
 
-#[derive(Drop)]
+#[derive(Clone, Copy)]
 pub struct Minted {
     pub taken: Taken,
     pub ids: Ids,

@@ -1,4 +1,5 @@
 // The worked example of the listing: its recording is standard input.
+#![tactic(auto)]
 use libc::STDIN_FILENO;
 
 fn main() {

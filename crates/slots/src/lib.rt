@@ -1,4 +1,5 @@
 // Detectors in slots, in order of adding, and the batch of events that they say of a window.
+#![tactic(auto)]
 ghost use Rattle.std.specs.Prelude.{◌≡◌, not, ◌<◌, ◌≤◌, ◌+◌, length, eqb};
 ghost use Rattle.lists.specs.All.{all_to};
 ghost use Rattle.slots.specs.Limits.{places, part};
@@ -31,7 +32,7 @@ pub const ROOM: usize = 256;
 pub const LAST: u64 = 0xffff_ffff_ffff_fff9;
 
 // One detector: its settings and its state.
-#[derive(Drop)]
+#[derive(Clone, Copy)]
 pub enum Detector {
     Presence(PresenceConfig, PresenceState),
     Motion(MotionConfig, MotionState),
@@ -39,13 +40,13 @@ pub enum Detector {
     Drift(BaselineDriftConfig, DriftState),
 }
 
-#[derive(Drop)]
+#[derive(Clone, Copy)]
 pub struct Slot {
     pub detector: Detector,
 }
 
 // The detectors in order of adding: the first `count` slots.
-#[derive(Drop)]
+#[derive(Clone, Copy)]
 pub struct Detectors {
     pub slots: [Slot; PLACES],
     pub count: usize,
@@ -77,7 +78,7 @@ pub fn kind_number(d: Detector) -> u8
 }
 
 // A detector after a window, and what it says, in this order.
-#[derive(Drop)]
+#[derive(Clone, Copy)]
 pub struct Stepped {
     pub detector: Detector,
     pub first: Judgement,
@@ -222,7 +223,7 @@ pub fn set_ok(set: Detectors) -> bool
 }
 
 // The kinds in order of adding: the first `count` places.
-#[derive(Drop)]
+#[derive(Clone, Copy)]
 pub struct Kinds {
     pub numbers: [u8; PLACES],
     pub count: usize,
@@ -243,7 +244,7 @@ pub fn detector_kinds(set: Detectors) -> Kinds
 // ---- adding
 
 // The settings of a detector to be added.
-#[derive(Drop)]
+#[derive(Clone, Copy)]
 pub enum DetectorConfig {
     Presence(PresenceConfig),
     Motion(MotionConfig),
@@ -323,7 +324,7 @@ pub fn no_detectors() -> Detectors
 }
 
 // Reply 0, 14, 1 or 15.
-#[derive(Drop)]
+#[derive(Clone, Copy)]
 pub enum Addition {
     Added,
     OutOfRange,
@@ -331,7 +332,7 @@ pub enum Addition {
     KindThere,
 }
 
-#[derive(Drop)]
+#[derive(Clone, Copy)]
 pub struct Adding {
     pub reply: Addition,
     pub set: Detectors,
@@ -387,7 +388,7 @@ fn put(set: Detectors, d: Detector) -> Adding
 // ---- the batch
 
 // What a judgement tells: nothing, or an event's kind and confidence.
-#[derive(Drop)]
+#[derive(Clone, Copy)]
 pub enum Told {
     Nothing,
     Event(CsiEventKind, f32),
@@ -410,7 +411,7 @@ fn tell(j: Judgement) -> Told
 }
 
 // The events of one window, in order: the first `count` places.
-#[derive(Drop)]
+#[derive(Clone, Copy)]
 pub struct Batch {
     pub events: [CsiEvent; MOST],
     pub count: usize,
@@ -464,7 +465,7 @@ fn push(b: Batch, t: Told, w: CsiWindow, first: u64) -> Batch
 
 // ---- all of them
 
-#[derive(Drop)]
+#[derive(Clone, Copy)]
 pub struct Round {
     pub slots: [Slot; PLACES],
     pub batch: Batch,
@@ -519,7 +520,7 @@ fn judge_all(
 }
 
 // Reply 13, 14, 5 or 8.
-#[derive(Drop)]
+#[derive(Clone, Copy)]
 pub enum Refusal {
     StoreShort,
     OutOfRange,
@@ -528,13 +529,13 @@ pub enum Refusal {
 }
 
 // Reply 0, or a refusal.
-#[derive(Drop)]
+#[derive(Clone, Copy)]
 pub enum Reply {
     Done,
     Refused(Refusal),
 }
 
-#[derive(Drop)]
+#[derive(Clone, Copy)]
 pub struct Judged {
     pub reply: Reply,
     pub ids: Ids,

@@ -1,10 +1,11 @@
 // Runs vectors that independent programs made (tools/float_vectors.py, tools/logistic_vectors.py) and compares every bit of each answer.
 // It writes a line for each file: how many were compared, how many differ, and the first that does.
+#![tactic(auto)]
 use libc::STDOUT_FILENO;
 use logistic::Logistic;
 
 // What is compared.
-#[derive(Drop)]
+#[derive(Clone, Copy)]
 enum Helper {
     Root,
     Narrow,
@@ -19,7 +20,7 @@ enum Helper {
 }
 
 // How many cases were compared, how many differ, and the first that does.
-#[derive(Drop)]
+#[derive(Clone, Copy)]
 struct Tally {
     compared: u64,
     differ: u64,
