@@ -6,8 +6,7 @@ use lib.Ieee.Exact.{HasValue}
 use lib.Ieee.Fits.{down_pos}
 use lib.Ieee.Scale.{round_same}
 use lib.Ieee.Back.{round_whole}
-use Rattle.logistic.proofs.scaled.Statement.{statement}
-use Rattle.logistic.proofs.scaled.Tie as tie
+use Rattle.logistic.proofs.scaled.Goals as goal
 
 quotient : (x : Float) (n : ℕ) → HasValue x false n 1 → div binary32 x (fin false 1 (pos 24)) ≡ round binary32 false n 16777216
 unfolding div
@@ -18,13 +17,10 @@ quotient (fin false m e) n v =
     round_same binary32 false (m * up e * 1) (16777216 * down e) n 16777216 (mul-pos {m = 16777216} {n = down e} (lit< tt) (down_pos e)) (lit< tt)
     (ap (λ (x : ℕ). x * 16777216) v.1 ∙ mul_assoc n (down e) 16777216 ∙ ap (λ (x : ℕ). n * x) (mul_comm (down e) 16777216))
 
-int-to-float-result : tie.Need-int-to-float-result
+pub int_to_float-result : goal.int_to_float-result
 unfolding in_float
-int-to-float-result c = le→leb c.before.args.n 16777216 c.before.requires
+int_to_float-result c = le→leb c.args.n 16777216 c.requires
 
-returns : tie.Need-returns
+pub returns : goal.returns
 unfolding of_bits of_int
-returns c = quotient (of_int binary32 (pos c.before.args.n)) c.before.args.n (round_whole binary32 false c.before.args.n c.before.requires)
-
-pub scaled-spec : {M : Type 1} → statement M
-scaled-spec = tie.close (tie.spec int-to-float-result returns)
+returns c = quotient (of_int binary32 (pos c.args.n)) c.args.n (round_whole binary32 false c.args.n c.requires)
