@@ -1,8 +1,7 @@
 -- A number strictly between two neighbouring multiples of a half of the last kept digit rounds as any other there: `round` need not know it exactly. Assumes nothing.
-use Rattle.std.proofs.Common.{◌≡◌, ℕ, zero, suc, ◌+◌, ◌-◌, ◌*◌, ◌/◌, ◌%◌, ◌^◌, ◌<◌, ◌≤◌, Bool, ◌⊎◌, sym, refl, ap, ◌∙◌, subst, inl, inr, le_trans, le_of_eq, lt_of_lt_of_le, lt_of_le_of_lt, le_of_lt, mul-le-mul_right, zero-lt-suc, mul_assoc, suc-mul, mul_comm, div-lt_iff_lt-mul, add-mul, mul-le-mul_left, mul-lt-mul_of_pos_right, mul-pos, one-mul, le-div_iff_mul-le, mul-one, mul_right_comm, mul_left_comm, arith, pow_pos, pow_mono, pow-add}
-use Prim.Native.Nat.{compare}
+use Rattle.std.proofs.Common.{◌≡◌, ℕ, suc, ◌+◌, ◌-◌, ◌*◌, ◌/◌, ◌^◌, ◌<◌, ◌≤◌, Bool, sym, ap, ◌∙◌, inr, le_trans, le_of_eq, lt_of_lt_of_le, lt_of_le_of_lt, le_of_lt, mul-le-mul_right, zero-lt-suc, mul_assoc, suc-mul, mul_comm, div-lt_iff_lt-mul, mul-pos, le-div_iff_mul-le, mul_right_comm, arith, pow_pos, pow-add}
 use native.Mathlib.Nat.{pow-succ'}
-use lib.Ieee.{Float, Format, prec, low, size, units, round}
+use lib.Ieee.{Format, prec, low, size, units, round}
 use lib.Ieee.Fits.{two, two-le_pos, core, round_is}
 use lib.Ieee.Nearest.{closest}
 use Rattle.floats.proofs.Compared.{closest_near, closest_is}

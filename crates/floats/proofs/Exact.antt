@@ -1,5 +1,5 @@
 -- A format's value is known by its sign and its size, so rounding what the format holds changes nothing. Sums, products and quotients that are no NaN. Assumes nothing.
-use Rattle.std.proofs.Common.{◌≡◌, ℕ, zero, suc, ◌+◌, ◌-◌, ◌*◌, ◌/◌, ◌%◌, ◌^◌, ◌<◌, ◌≤◌, Bool, true, false, cond, not, ◌&&◌, ◌||◌, T, eqb, ltb, leb, ◌⊎◌, ℤ, pos, negsuc, sym, refl, ap, ◌∙◌, subst, inl, inr, le_trans, le_of_eq, lt_of_lt_of_le, le_of_suc-le-suc, lt_irrefl, mul_assoc, mul_comm, lt_of_mul-lt-mul_right, mul-lt-mul_of_pos_right, mul-pos, one-mul, lt_of_not-le, zero-mul, mul-one, mul_right_comm, mul_left_comm, arith, eqb→eq, ltb→lt, leb→le, pow_pos, pow_mono, pow-add, ne_eqb}
+use Rattle.std.proofs.Common.{◌≡◌, ℕ, zero, suc, ◌+◌, ◌-◌, ◌*◌, ◌%◌, ◌^◌, ◌<◌, ◌≤◌, Bool, true, false, cond, not, ◌&&◌, ◌||◌, T, eqb, ltb, leb, ℤ, pos, negsuc, sym, refl, ap, ◌∙◌, subst, le_trans, le_of_eq, lt_of_lt_of_le, le_of_suc-le-suc, lt_irrefl, mul_assoc, mul_comm, lt_of_mul-lt-mul_right, mul-lt-mul_of_pos_right, mul-pos, one-mul, lt_of_not-le, zero-mul, mul-one, mul_right_comm, arith, eqb→eq, ltb→lt, leb→le, pow_pos, pow-add, ne_eqb}
 use native.Mathlib.Nat.{eq_of_mul-eq-mul_right}
 use mathlib.Core.Bool.{beq}
 use lib.Pow.{pow-lt}
@@ -7,9 +7,9 @@ use lib.Ieee.{Float, nan, inf, fin, Format, prec, emax, low, up, down, round, su
 use lib.Ieee.Fits.{and_l, and_r, down_pos, round-fits}
 use lib.Ieee.Bits.{of_bits-to_bits}
 use lib.Ieee.Exact.{HasValue, round_exact}
-use lib.Ieee.Scale.{finite, round_same}
+use lib.Ieee.Scale.{finite}
 use Rattle.floats.specs.Convert.{convert}
-use Rattle.floats.proofs.Grid.{to_bits_of_value, round_is_number, round_grid}
+use Rattle.floats.proofs.Grid.{to_bits_of_value, round_is_number}
 
 pow_le_back : (a l : ℕ) → 2 ^ a ≤ 2 ^ l → a ≤ l
 pow_le_back a l h = le_of_suc-le-suc (lt_of_not-le (λ (g : suc l ≤ a). lt_irrefl (2 ^ l) (lt_of_lt_of_le (pow-lt g) h)))

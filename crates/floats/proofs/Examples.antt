@@ -1,7 +1,7 @@
-use Rattle.std.proofs.Common.{◌≡◌, ℕ, ◌^◌, false, pos, refl}
+use Rattle.std.proofs.Common.{◌≡◌, false, pos, refl}
 use lib.Ieee.{fin, binary32, binary64, of_bits, to_bits}
 use Rattle.floats.specs.Convert.{convert}
-use Rattle.floats.specs.Sqrt.{sqrt, whole}
+use Rattle.floats.specs.Sqrt.{sqrt}
 
 two : to_bits binary64 (sqrt binary64 (of_bits binary64 0x4000_0000_0000_0000)) ≡ 0x3ff6_a09e_667f_3bcd
 unfolding to_bits sqrt of_bits

@@ -1,15 +1,14 @@
 -- Rounding keeps the order of signed fractions, so a sum and a difference keep the order of their operands.
 -- Assumes nothing.
-use Rattle.std.proofs.Common.{◌≡◌, ℕ, zero, suc, ◌+◌, ◌-◌, ◌*◌, ◌/◌, ◌^◌, ◌<◌, ◌≤◌, Bool, true, false, cond, not, T, ltb, ℤ, pos, sym, refl, ap, ◌∙◌, subst, true≢false, zero-le, mul-le-mul_right, mul_assoc, mul_comm, add-mul, mul-pos, zero-mul, mul-one, mul_right_comm, arith, ltb-false, ltb-true}
+use Rattle.std.proofs.Common.{◌≡◌, ℕ, zero, suc, ◌+◌, ◌-◌, ◌*◌, ◌/◌, ◌^◌, ◌<◌, ◌≤◌, Bool, true, false, cond, not, T, ltb, ℤ, sym, refl, ap, ◌∙◌, subst, true≢false, zero-le, mul-le-mul_right, mul_assoc, mul_comm, add-mul, mul-pos, zero-mul, mul_right_comm, arith, ltb-false, ltb-true}
 use native.Mathlib.Nat.{eq_of_mul-eq-mul_right}
-use lib.Ieee.{Float, nan, inf, fin, Format, prec, emax, low, up, down, size, odd, units, round, sum, add, sub, neg, mul, le, is_nan}
+use lib.Ieee.{Float, nan, inf, fin, Format, prec, emax, low, up, down, size, odd, units, round, sum, add, sub, neg, le}
 use lib.Ieee.Fits.{down_pos, round_is}
 use lib.Ieee.Nearest.{closest}
 use lib.Ieee.Order.{round_mono}
 use lib.Ieee.Exact.{HasValue, round_exact}
 use lib.Ieee.Scale.{finite}
 use Rattle.floats.proofs.Order.{plus, less, side, le_of, to_le, plus_mul, less_mul, fin_le}
-use Rattle.floats.proofs.Grid.{round_is_number}
 
 -- ---- a value with the sign s, no NaN
 abbrev Signed : Bool → Float → Type 0

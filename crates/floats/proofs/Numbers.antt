@@ -1,5 +1,5 @@
 -- NaNs and their patterns, in either format, and an `f64` that is no NaN, by its pattern. Assumes nothing.
-use Rattle.std.proofs.Common.{◌≡◌, ℕ, ◌+◌, ◌-◌, ◌*◌, ◌/◌, ◌%◌, ◌^◌, ◌<◌, ◌≤◌, Bool, true, false, not, T, ltb, pos, sym, refl, ap, ◌∙◌, subst, true≢false, mod-eq_of_lt, arith, nltb→le, le-ltb, lt-ltb}
+use Rattle.std.proofs.Common.{◌≡◌, ℕ, ◌+◌, ◌-◌, ◌*◌, ◌/◌, ◌%◌, ◌<◌, ◌≤◌, Bool, true, false, not, T, ltb, pos, sym, refl, ap, ◌∙◌, subst, true≢false, mod-eq_of_lt, arith, nltb→le, le-ltb, lt-ltb}
 use native.Mathlib.Nat.{mod-eq-sub-mod}
 use mathlib.Core.Bool.{false≢true}
 use lib.Ieee.{Float, nan, inf, fin, Format, binary32, binary64, div, ne, is_nan, fits, hid, ones, top, nan_bits, of_bits, to_bits}

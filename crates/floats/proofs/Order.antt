@@ -1,6 +1,6 @@
 -- The order of floats: `le` is transitive, and of two values that are no NaN `lt x y` is the negation of `le y x`. Infinities and both zeros are included.
 -- A finite value is (p - n) / d with natural numbers p, n, d, of which p or n is 0. So x ≤ y says p₁ d₂ + n₂ d₁ ≤ p₂ d₁ + n₁ d₂. Assumes nothing.
-use Rattle.std.proofs.Common.{◌≡◌, ℕ, ◌+◌, ◌*◌, ◌<◌, ◌≤◌, Bool, true, false, not, ◌&&◌, ◌||◌, T, eqb, ltb, leb, ◌⊎◌, ℤ, pos, negsuc, sym, refl, ap, subst, inl, inr, ⊎_elim, true≢false, mul-le-mul_right, add-mul, zero-mul, mul_right_comm, le_of_mul-le-mul_right, arith, le→leb, eqb→eq, ltb→lt, lt→ltb, leb→le, pow_pos}
+use Rattle.std.proofs.Common.{◌≡◌, ℕ, ◌+◌, ◌*◌, ◌<◌, ◌≤◌, Bool, true, false, not, ◌&&◌, ◌||◌, T, eqb, ltb, ◌⊎◌, ℤ, pos, negsuc, sym, refl, subst, inl, inr, ⊎_elim, true≢false, mul-le-mul_right, add-mul, zero-mul, mul_right_comm, le_of_mul-le-mul_right, arith, eqb→eq, ltb→lt, lt→ltb, pow_pos}
 use lib.Dec.{eqb_refl}
 use lib.Ieee.{Float, nan, inf, fin, up, down, below, level, lt, eq, le, is_nan}
 

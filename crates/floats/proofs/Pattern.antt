@@ -1,12 +1,12 @@
 -- Patterns in either format: what a pattern's fields are read as, and the pattern of what `round` gives. Assumes nothing.
-use Rattle.std.proofs.Common.{◌≡◌, ℕ, zero, suc, ◌+◌, ◌-◌, ◌*◌, ◌/◌, ◌%◌, ◌^◌, ◌<◌, ◌≤◌, Bool, true, false, cond, not, T, eqb, leb, ◌⊎◌, sym, refl, ap, ◌∙◌, subst, inl, inr, le_trans, le_of_eq, lt_of_lt_of_le, le-add_right, lt_irrefl, mod-eq_of_lt, zero-lt-suc, mul_assoc, mul_comm, mul-pos, le-div_iff_mul-le, zero-add, mul-one, not-le_of_lt, arith, le→leb, eqb→eq, pow_pos, pow-add, shr_lt}
+use Rattle.std.proofs.Common.{◌≡◌, ℕ, suc, ◌+◌, ◌-◌, ◌*◌, ◌/◌, ◌%◌, ◌^◌, ◌<◌, ◌≤◌, Bool, true, false, cond, not, T, eqb, leb, ◌⊎◌, sym, refl, ap, ◌∙◌, subst, inl, inr, le_trans, le_of_eq, le-add_right, lt_irrefl, mod-eq_of_lt, le-div_iff_mul-le, zero-add, le→leb, eqb→eq, pow_pos, pow-add, shr_lt}
 use Prim.Native.Nat.{compare}
-use native.Mathlib.Nat.{add-mod_left, mul-add-mod_self_left, mod-mod_of_dvd, dvd-mul_right}
+use native.Mathlib.Nat.{add-mod_left, mul-add-mod_self_left}
 use lib.Dec.{not_T}
 use lib.Arith.{lt→nleb}
-use lib.Ieee.{Float, nan, inf, fin, Format, prec, low, up, down, nearest, odd, units, round, fits, is_nan, hid, ones, top, of_fields, of_bits, nan_bits, to_bits}
-use lib.Ieee.Fits.{round-fits, nearest-le, down_pos, eq→eqb}
-use lib.Ieee.Bits.{of_bits-to_bits, nan_bits_is, is_true, is_false, cond_no}
+use lib.Ieee.{Float, nan, inf, fin, Format, prec, low, up, down, odd, units, round, is_nan, hid, ones, top, of_fields, of_bits, to_bits}
+use lib.Ieee.Fits.{round-fits, nearest-le, down_pos}
+use lib.Ieee.Bits.{of_bits-to_bits, is_true, is_false, cond_no}
 use lib.Ieee.Exact.{HasValue, odd_sign}
 use lib.Ieee.Nearest.{closest, nearest-ge}
 use lib.Ieee.Scale.{round_same}

@@ -1,12 +1,11 @@
 -- Why `sqrt` deserves its name (`root-not-below`, `root-not-above`): with x a positive value, every fraction u / v whose square is at most x rounds to
 -- at most `sqrt x`, and every one whose square is at least x rounds to at least `sqrt x`. So `sqrt x` is √x rounded once. Assumes nothing.
-use Rattle.std.proofs.Common.{◌≡◌, ℕ, zero, suc, ◌+◌, ◌-◌, ◌*◌, ◌/◌, ◌%◌, ◌^◌, ◌<◌, ◌≤◌, Bool, true, false, not, T, eqb, leb, ◌⊎◌, ℤ, sym, refl, ap, ◌∙◌, subst, inl, inr, le_trans, le_of_eq, le_refl, lt_of_lt_of_le, lt_of_le_of_lt, le_of_lt, lt_irrefl, mul-le-mul_right, mod-lt, zero-lt-suc, mul_assoc, suc-mul, mul_comm, div-lt_iff_lt-mul, mul-le-mul, eq-or-lt_of_le, mul-lt-mul_of_pos_right, mul-pos, lt_of_not-le, div-add-mod', le-div_iff_mul-le, zero-mul, mul_right_comm, div-mul-le_self, le_of_mul-le-mul_right, mul_left_comm, arith, lit≤, eqb→eq, leb→le, pow_pos, pow_mono, pow-add}
+use Rattle.std.proofs.Common.{◌≡◌, ℕ, zero, suc, ◌+◌, ◌-◌, ◌*◌, ◌/◌, ◌%◌, ◌^◌, ◌<◌, ◌≤◌, Bool, true, false, not, T, eqb, leb, ℤ, sym, refl, ap, ◌∙◌, subst, le_trans, le_of_eq, le_refl, lt_of_lt_of_le, lt_of_le_of_lt, lt_irrefl, mul-le-mul_right, mod-lt, zero-lt-suc, mul_assoc, suc-mul, mul_comm, div-lt_iff_lt-mul, mul-lt-mul_of_pos_right, mul-pos, lt_of_not-le, div-add-mod', le-div_iff_mul-le, zero-mul, mul_right_comm, div-mul-le_self, le_of_mul-le-mul_right, mul_left_comm, arith, lit≤, eqb→eq, leb→le, pow_pos, pow_mono, pow-add}
 use native.Mathlib.Nat.{mul-mul-mul_comm, pow-succ'}
 use lib.Dec.{eqb_refl, nleb→lt}
 use lib.Ieee.{Float, fin, Format, binary32, binary64, prec, low, up, down, size, round, fits, le}
 use lib.Ieee.Fits.{down_pos, up_pos}
 use lib.Ieee.Digits.{size-lt, size_reaches}
-use lib.Ieee.Bits.{is_true, is_false}
 use lib.Ieee.Exact.{HasValue}
 use lib.Ieee.Order.{round_mono}
 use Rattle.floats.specs.Sqrt.{more as extra, whole, root_of, sqrt}

@@ -1,18 +1,17 @@
 -- The root by its digits: whole digits and what they leave say what `root_of` rounds to. Assumes nothing.
-use Rattle.std.proofs.Common.{◌≡◌, ℕ, zero, suc, ◌+◌, ◌-◌, ◌*◌, ◌/◌, ◌%◌, ◌^◌, ◌<◌, ◌≤◌, Bool, true, false, cond, not, T, eqb, ◌⊎◌, ℤ, sym, refl, ap, ◌∙◌, subst, inl, inr, true≢false, le_trans, le_of_eq, le_refl, lt_of_lt_of_le, le-add_right, lt_of_le_of_lt, add-zero, le_of_lt, lt_irrefl, mul-le-mul_right, zero-lt-suc, mul_assoc, suc-mul, mul_comm, eq-or-lt_of_le, mul-le-mul_left, mul-lt-mul_of_pos_right, mul-pos, zero-mul, mul-one, mul_right_comm, mul-div_cancel, mul_left_comm, arith, eqb→eq, pow_pos, pow_mono, pow-add, shl_lt}
-use Prim.Native.Nat.{compare}
-use native.Mathlib.Nat.{mul-mul-mul_comm, pow-succ', eq_of_mul-eq-mul_right}
+use Rattle.std.proofs.Common.{◌≡◌, ℕ, zero, suc, ◌+◌, ◌-◌, ◌*◌, ◌/◌, ◌^◌, ◌<◌, ◌≤◌, Bool, true, false, T, eqb, ◌⊎◌, sym, refl, ap, ◌∙◌, subst, inl, inr, true≢false, le_trans, le_of_eq, lt_of_lt_of_le, lt_of_le_of_lt, add-zero, le_of_lt, lt_irrefl, mul-le-mul_right, mul_assoc, mul_comm, eq-or-lt_of_le, mul-lt-mul_of_pos_right, mul-pos, zero-mul, mul_right_comm, mul-div_cancel, arith, eqb→eq, pow_pos, pow-add, shl_lt}
+use native.Mathlib.Nat.{mul-mul-mul_comm, pow-succ'}
 use mathlib.Core.Bool.{false≢true}
-use lib.Dec.{eqb_refl, not_T}
+use lib.Dec.{not_T}
 use lib.Ieee.{Float, nan, inf, fin, Format, prec, low, up, down, size, units, round, is_nan, fits}
 use lib.Ieee.Fits.{two, two-le_pos, down_pos, eq→eqb, round-fits}
 use lib.Ieee.Bits.{is_true, is_false}
 use lib.Ieee.Exact.{HasValue}
 use lib.Ieee.Nearest.{closest}
 use lib.Ieee.Scale.{round_same}
-use Rattle.floats.specs.Sqrt.{more as extra, whole, halves, root_of, sqrt}
+use Rattle.floats.specs.Sqrt.{more as extra, whole, root_of, sqrt}
 use Rattle.floats.proofs.Grid.{round_grid, round_is_number}
-use Rattle.floats.proofs.Squares.{sq_suc, root_le, root_lt, IsRoot, whole_is, whole_of}
+use Rattle.floats.proofs.Squares.{sq_suc, root_le, root_lt, whole_is, whole_of}
 use Rattle.floats.proofs.Between.{round_between}
 
 pub opened : (f : Format) (n : ℕ) → root_of f n ≡ round f false (whole (size n) n * 2 + extra (eqb (whole (size n) n * whole (size n) n) n)) (2 ^ suc (low f))

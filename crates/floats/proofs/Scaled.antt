@@ -1,13 +1,13 @@
 -- `root_scaled`: how far its radicand is shifted, that the digits of the root are 54, and the pattern that it makes of them. Assumes nothing.
-use Rattle.std.proofs.Common.{◌≡◌, ℕ, zero, suc, ◌+◌, ◌-◌, ◌*◌, ◌/◌, ◌%◌, ◌^◌, ◌<◌, ◌≤◌, Bool, true, false, cond, T, eqb, ◌⊎◌, sym, refl, ap, ◌∙◌, subst, inl, inr, le_trans, le_of_eq, lt_of_lt_of_le, lt_of_le_of_lt, le_of_lt, lt_irrefl, mul-le-mul_right, zero-lt-suc, mul_assoc, mul_comm, eq-or-lt_of_le, mul-lt-mul_of_pos_right, lt_of_not-le, le-div_iff_mul-le, zero-add, arith, lit<, lit≤, eqb→eq, pow_pos, pow_mono, pow-add, shl_lt, shl_exact, shr_lt}
+use Rattle.std.proofs.Common.{◌≡◌, ℕ, suc, ◌+◌, ◌-◌, ◌*◌, ◌/◌, ◌%◌, ◌^◌, ◌<◌, ◌≤◌, Bool, true, false, T, eqb, sym, ap, ◌∙◌, subst, inr, le_trans, le_of_eq, lt_of_lt_of_le, lt_of_le_of_lt, lt_irrefl, mul-le-mul_right, zero-lt-suc, mul_assoc, mul_comm, mul-lt-mul_of_pos_right, lt_of_not-le, le-div_iff_mul-le, zero-add, arith, lit≤, eqb→eq, pow_pos, pow_mono, pow-add, shl_lt, shl_exact, shr_lt}
 use Prim.Native.Nat.{compare}
 use lib.Dec.{eqb_refl}
 use lib.Count.{count_leading_zeros, leading_top}
-use lib.Ieee.{Float, Format, binary64, nearest, units, round, size, low, hid, ones, top, fits, of_bits, to_bits}
-use lib.Ieee.Fits.{nearest-le, round-fits}
+use lib.Ieee.{binary64, units, of_bits, to_bits}
+use lib.Ieee.Fits.{nearest-le}
 use lib.Ieee.Bits.{of_bits-to_bits}
 use lib.Ieee.Nearest.{closest, nearest-ge}
-use Rattle.floats.specs.Sqrt.{root_of, more, whole, halves}
+use Rattle.floats.specs.Sqrt.{root_of, more}
 use Rattle.floats.specs.Parts.{Rooted}
 use Rattle.floats.proofs.Grid.{units_bits}
 use Rattle.floats.proofs.Squares.{sq_suc, root_le, root_lt}

@@ -1,6 +1,6 @@
 -- `sqrt` by the pattern: a positive number, a zero or the infinity, and a negative number. Assumes nothing.
-use Rattle.std.proofs.Common.{◌≡◌, ℕ, zero, suc, ◌+◌, ◌-◌, ◌*◌, ◌/◌, ◌%◌, ◌^◌, ◌<◌, ◌≤◌, Bool, true, false, cond, ◌⊎◌, sym, refl, ap, ◌∙◌, subst, inl, inr, lt_of_lt_of_le, zero-lt-suc, mul_assoc, add-sub_of_le, eq-or-lt_of_le, mul-pos, zero-add, mul-one, arith, lit<, lit≤, pow_pos, pow-add}
-use lib.Ieee.{Float, nan, inf, fin, binary64, top, of_fields, of_bits, to_bits, is_nan}
+use Rattle.std.proofs.Common.{◌≡◌, ℕ, zero, suc, ◌+◌, ◌-◌, ◌*◌, ◌/◌, ◌%◌, ◌^◌, ◌<◌, ◌≤◌, Bool, true, false, cond, ◌⊎◌, sym, refl, ap, ◌∙◌, subst, inl, inr, lt_of_lt_of_le, zero-lt-suc, mul_assoc, add-sub_of_le, eq-or-lt_of_le, mul-pos, zero-add, mul-one, arith, pow_pos, pow-add}
+use lib.Ieee.{Float, nan, binary64, top, of_fields, of_bits, to_bits, is_nan}
 use lib.Ieee.Bits.{of_bits-to_bits}
 use lib.Ieee.Exact.{HasValue}
 use Rattle.floats.specs.Sqrt.{root_of, sqrt}

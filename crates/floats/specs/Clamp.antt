@@ -1,5 +1,5 @@
 -- A value brought into 0..1, as Rust's `clamp(0.0, 1.0)` does it. Definitions only.
-use Rattle.std.specs.Prelude.{Bool, cond, from_bits, Float}
+use Rattle.std.specs.Prelude.{cond, from_bits, Float}
 use Rattle.std.specs.Float.{binary32}
 use Rattle.std.specs.Float.Ieee.{lt}
 

@@ -1,7 +1,7 @@
 -- The square root, as IEEE 754 has it: the value of the format that is nearest to it, a tie to the even one. Definitions only.
-use Rattle.std.specs.Prelude.{◌≡◌, ℕ, zero, suc, ◌+◌, ◌*◌, ◌/◌, ◌^◌, ◌<◌, ◌≤◌, Bool, true, false, cond, pos, ◌==◌, nat_le, Float}
-use Rattle.std.specs.Float.{nan, inf, fin, Format, binary64}
-use Rattle.std.specs.Float.Ieee.{low, up, down, size, round, of_bits}
+use Rattle.std.specs.Prelude.{ℕ, zero, suc, ◌+◌, ◌*◌, ◌/◌, ◌^◌, Bool, true, false, cond, ◌==◌, nat_le, Float}
+use Rattle.std.specs.Float.{nan, inf, fin, Format}
+use Rattle.std.specs.Float.Ieee.{low, up, down, size, round}
 
 -- 2 * p, or the next number if its square is no more than n
 unfoldable pub digit : ℕ → ℕ → ℕ

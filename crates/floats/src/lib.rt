@@ -1,6 +1,7 @@
 // Float helpers: finite test, clamp, f32 to f64 and back, square root, the f32 of a bit pattern.
 // Each answers every input, by whole-number arithmetic on bit patterns where IEEE 754 rounds, so every machine gives the same bits.
 #![tactic(auto)]
+
 ghost use Rattle.std.specs.Prelude.{◌≡◌, ◌+◌, ◌*◌, ◌^◌, ◌<◌, ◌≤◌, ◌==◌, from_bits, to_bits};
 ghost use Rattle.std.specs.Float.{binary32, binary64};
 ghost use Rattle.std.specs.Float.Ieee.Nearest.{closest};

@@ -1,7 +1,7 @@
 -- The presence score of a window whose motion and threshold are finite: it is the score of z, a number from 0 to 1.
 -- It never falls as the motion rises, and never rises as the threshold does. Assumes nothing.
 use Rattle.std.proofs.Common.{◌≡◌, false, T, sym, refl, ap, ◌∙◌}
-use lib.Ieee.{Float, nan, inf, fin, binary32, sub, neg, mul, le, is_nan, of_bits}
+use lib.Ieee.{Float, binary32, sub, mul, le, is_nan, of_bits}
 use lib.Ieee.Scale.{finite}
 use Rattle.logistic.specs.Score.{z_of, score_of, taken, answer_of, given, presence_score}
 use Rattle.floats.proofs.Exact.{sub_number}

@@ -1,5 +1,6 @@
 // The logistic table and the score of a float by it: whole-number arithmetic, so that every machine gives the same bits.
 #![tactic(auto)]
+
 mod table;
 
 ghost use Rattle.std.specs.Prelude.{◌≡◌, ◌<◌, ◌≤◌, true, false, T};

@@ -1,5 +1,5 @@
 -- `floats::bits_finite` meets its contract. Assumes nothing.
-use Rattle.std.proofs.Common.{ap, ◌∙◌, rules}
+use Rattle.std.proofs.Common.{ap, ◌∙◌}
 use lib.Ieee.Scale.{finite}
 use Rattle.floats.proofs.bits_finite.Goals as goal
 

@@ -1,8 +1,7 @@
 -- `floats::narrow` meets its contract. Assumes nothing.
-use Rattle.std.proofs.Common.{◌≡◌, ℕ, ◌+◌, ◌-◌, ◌*◌, ◌/◌, ◌%◌, ◌^◌, ◌<◌, ◌≤◌, Bool, true, false, not, T, ltb, sym, refl, ap, ◌∙◌, subst, true≢false, mod-eq_of_lt, add-sub_of_le, add_comm, zero-add, arith, nltb→le, rules}
-use native.Mathlib.Nat.{mod-eq-sub-mod, sub-lt_left_of_lt-add}
-use lib.Ieee.{Float, nan, inf, fin, binary32, binary64, div, ne, is_nan, fits, of_bits, nan_bits, to_bits, top, hid, ones}
-use lib.Ieee.Bits.{of_bits-to_bits, to_bits-lt, nan_bits_is, nan_bits_above, is_false}
+use Rattle.std.proofs.Common.{◌≡◌, ℕ, ◌+◌, ◌-◌, ◌≤◌, true, false, not, T, sym, ap, ◌∙◌, subst, add-sub_of_le, add_comm, zero-add}
+use lib.Ieee.{Float, nan, binary32, binary64, is_nan, of_bits, nan_bits, to_bits}
+use lib.Ieee.Bits.{of_bits-to_bits, nan_bits_is}
 use Rattle.floats.specs.Convert.{convert}
 use Rattle.floats.specs.Parts.{Narrowed}
 use Rattle.floats.proofs.Pattern.{convert_number}
@@ -38,10 +37,10 @@ narrow_magnitude-r-requires c = positive_in c.args.x (number c.before) c.if-b-lt
 pub float_from_bits-result : goal.float_from_bits-result
 float_from_bits-result c =
     let x = c.args.x in
-    defined x c.narrow_magnitude-r.result (number c.before) (positive-is x c.narrow_magnitude-r.result (number c.before) c.narrow_magnitude-r.ensures)
+    defined x c.narrow_magnitude-r.result (number c.before.before) (positive-is x c.narrow_magnitude-r.result (number c.before.before) c.narrow_magnitude-r.ensures)
 
 pub returns-then-b-lt9223372036854775808 : goal.returns-then-b-lt9223372036854775808
-returns-then-b-lt9223372036854775808 c = positive-is c.args.x c.narrow_magnitude-r.result (number c.before) c.narrow_magnitude-r.ensures
+returns-then-b-lt9223372036854775808 c = positive-is c.args.x c.narrow_magnitude-r.result (number c.before.before) c.narrow_magnitude-r.ensures
 
 pub narrow_magnitude-r-requires-2 : goal.narrow_magnitude-r-requires-2
 narrow_magnitude-r-requires-2 c = negative_in c.args.x (number c.before) c.if-b-lt9223372036854775808.false
@@ -49,7 +48,7 @@ narrow_magnitude-r-requires-2 c = negative_in c.args.x (number c.before) c.if-b-
 pub float_from_bits-result-2 : goal.float_from_bits-result-2
 float_from_bits-result-2 c =
     let x = c.args.x in
-    defined x (c.narrow_magnitude-r-2.result + 2147483648) (number c.before) (negative-is x c.narrow_magnitude-r-2.result (number c.before) c.if-b-lt9223372036854775808.false c.narrow_magnitude-r-2.ensures)
+    defined x (c.narrow_magnitude-r-2.result + 2147483648) (number c.before.before) (negative-is x c.narrow_magnitude-r-2.result (number c.before.before) c.if-b-lt9223372036854775808.false c.narrow_magnitude-r-2.ensures)
 
 pub returns : goal.returns
-returns c = negative-is c.args.x c.narrow_magnitude-r-2.result (number c.before) c.if-b-lt9223372036854775808.false c.narrow_magnitude-r-2.ensures
+returns c = negative-is c.args.x c.narrow_magnitude-r-2.result (number c.before.before) c.if-b-lt9223372036854775808.false c.narrow_magnitude-r-2.ensures

@@ -1,5 +1,5 @@
 -- `floats::nearest` meets its contract: its three ways are `nearest`'s three outcomes. Assumes nothing.
-use Rattle.std.proofs.Common.{◌≡◌, ℕ, suc, ◌+◌, ◌-◌, ◌*◌, ◌/◌, ◌%◌, ◌^◌, ◌<◌, ◌≤◌, sym, refl, ap, ◌∙◌, subst, le_trans, lt_of_lt_of_le, lt_of_le_of_lt, mod-lt, div-lt_iff_lt-mul, mul-le-mul_left, one-mul, le-div_iff_mul-le, div-le_self, div-mul-le_self, add-one, arith, lit<, pow_pos, pow_mono, shl_exact, shr_lt, rules}
+use Rattle.std.proofs.Common.{◌≡◌, ℕ, ◌+◌, ◌-◌, ◌*◌, ◌/◌, ◌%◌, ◌^◌, ◌<◌, ◌≤◌, sym, ap, ◌∙◌, subst, le_trans, lt_of_le_of_lt, mod-lt, mul-le-mul_left, one-mul, le-div_iff_mul-le, div-mul-le_self, add-one, arith, lit<, pow_pos, pow_mono, shl_exact, shr_lt}
 use lib.Bits.{bit_and, and_mask}
 use lib.Ieee.Nearest.{closest}
 use Rattle.floats.proofs.Compared.{nearest_below, nearest_above, nearest_tie}

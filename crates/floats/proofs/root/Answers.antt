@@ -1,6 +1,6 @@
 -- `floats::root` meets its contract. Assumes nothing.
-use Rattle.std.proofs.Common.{◌≡◌, ℕ, ◌<◌, ◌≤◌, Bool, true, false, not, T, sym, refl, ap, ◌∙◌, subst, arith, rules}
-use lib.Ieee.{Float, nan, binary64, div, ne, is_nan, fits, of_bits, nan_bits, to_bits}
+use Rattle.std.proofs.Common.{◌≡◌, ℕ, ◌<◌, T, sym, ap, ◌∙◌, subst, arith}
+use lib.Ieee.{Float, nan, binary64, is_nan, of_bits, nan_bits, to_bits}
 use lib.Ieee.Bits.{of_bits-to_bits, nan_bits_is}
 use Rattle.floats.specs.Sqrt.{sqrt}
 use Rattle.floats.proofs.Numbers.{no_nan, not-false, differing, zero_by_zero, Number}
@@ -34,10 +34,10 @@ float_from_bits-result c =
     not-false (nan_bits binary64 r) (nan_bits_is binary64 r ∙ ap is_nan c.root_positive.ensures ∙ positive_number b p c.if-b-lt9218868437227405312.true)
 
 pub returns-then-b-lt9218868437227405312 : goal.returns-then-b-lt9218868437227405312
-returns-then-b-lt9218868437227405312 c = c.root_positive.ensures ∙ ap (sqrt binary64) (of_bits-to_bits binary64 c.args.x (number c.before).1)
+returns-then-b-lt9218868437227405312 c = c.root_positive.ensures ∙ ap (sqrt binary64) (of_bits-to_bits binary64 c.args.x (number c.before.before.before).1)
 
 pub returns-then-b-le9223372036854775808 : goal.returns-then-b-le9223372036854775808
-returns-then-b-le9223372036854775808 c = inf_or_zero c.args.x (number c.before) c.if-b-lt9218868437227405312.false c.if-b-le9223372036854775808.true
+returns-then-b-le9223372036854775808 c = inf_or_zero c.args.x (number c.before.before.before) c.if-b-lt9218868437227405312.false c.if-b-le9223372036854775808.true
 
 pub returns : goal.returns
-returns c = let x = c.args.x in zero_by_zero binary64 (sqrt binary64 x) (sym (below_zero x (number c.before) c.if-b-le9223372036854775808.false))
+returns c = let x = c.args.x in zero_by_zero binary64 (sqrt binary64 x) (sym (below_zero x (number c.before.before.before) c.if-b-le9223372036854775808.false))

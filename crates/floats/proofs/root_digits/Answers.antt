@@ -1,9 +1,10 @@
 -- `floats::root_digits` meets its contract. The invariant: q is the whole root of the i leading pairs of digits of a, r what its square leaves, and w the pairs to come. Assumes nothing.
-use Rattle.std.proofs.Common.{◌≡◌, ℕ, suc, ◌+◌, ◌-◌, ◌*◌, ◌/◌, ◌%◌, ◌^◌, ◌<◌, ◌≤◌, sym, refl, ap, ◌∙◌, subst, ⊎_elim, lt_of_lt_of_le, mul_assoc, mul_comm, pow-suc, mul-one, add-one, arith, pow_pos, pow_mono, rules}
+use Rattle.std.proofs.Common.{◌≡◌, ℕ, ◌+◌, ◌-◌, ◌*◌, ◌/◌, ◌%◌, ◌^◌, ◌<◌, ◌≤◌, sym, ap, ◌∙◌, subst, lt_of_lt_of_le, mul_assoc, mul_comm, pow-suc, mul-one, add-one, arith, pow_pos, pow_mono}
 use Rattle.floats.specs.Parts.{Rooted}
 use Rattle.floats.proofs.Squares.{sq_twice, sq_odd}
 use Rattle.floats.proofs.root_digits.Invariants.{So}
 use Rattle.floats.proofs.root_digits.Goals as goal
+use Rattle.floats.proofs.root_digits.Goals.{then-t-s, else-t-s}
 
 four : (a i : ℕ) → a * 4 ^ (i + 1) ≡ 4 * (a * 4 ^ i)
 four a i = ap (λ (x : ℕ). a * 4 ^ x) (add-one i) ∙ ap (λ (x : ℕ). a * x) (pow-suc 4 i) ∙ sym (mul_assoc a (4 ^ i) 4) ∙ mul_comm (a * 4 ^ i) 4
@@ -70,10 +71,10 @@ loop-i-preserved c =
     let l = c.loop-i in
     let a = c.args.a in
     let w' = l.w * 4 % 18446744073709551616 in
-    ⊎_elim
-    (λ u. subst (λ (q : ℕ). So a q c.if-t-s.r w' (l.i + 1)) (sym u.1) (subst (λ (r : ℕ). So a (l.q * 2) r w' (l.i + 1)) (sym u.2) (zero-digit l.invariant (omega arith) u.0.true)))
-    (λ u. subst (λ (q : ℕ). So a q c.if-t-s.r w' (l.i + 1)) (sym u.1) (subst (λ (r : ℕ). So a (l.q * 2 + 1) r w' (l.i + 1)) (sym u.2) (one-digit l.invariant (omega arith) u.0.false)))
-    c.if-t-s.branch
+    elim c.if-t-s.branch [
+      | then-t-s u ↦ subst (λ (q : ℕ). So a q c.if-t-s.r w' (l.i + 1)) (sym u.q-is) (subst (λ (r : ℕ). So a (l.q * 2) r w' (l.i + 1)) (sym u.r-is) (zero-digit l.invariant (omega arith) u.if-t-s.true))
+      | else-t-s u ↦ subst (λ (q : ℕ). So a q c.if-t-s.r w' (l.i + 1)) (sym u.q-is) (subst (λ (r : ℕ). So a (l.q * 2 + 1) r w' (l.i + 1)) (sym u.r-is) (one-digit l.invariant (omega arith) u.if-t-s.false))
+    ]
 
 pub returns : goal.returns
 returns c = ends c.loop-i.invariant c.loop-i-test.false

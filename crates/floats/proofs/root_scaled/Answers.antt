@@ -1,5 +1,5 @@
 -- `floats::root_scaled` meets its contract: the laws are those of `proofs/Scaled.antt`. Assumes nothing.
-use Rattle.std.proofs.Common.{◌≡◌, ℕ, ◌+◌, ◌-◌, ◌*◌, ◌/◌, ◌%◌, ◌^◌, ◌<◌, ◌≤◌, sym, ap, ◌∙◌, subst, le_trans, arith, shr_lt, rules}
+use Rattle.std.proofs.Common.{◌≡◌, ℕ, ◌+◌, ◌*◌, ◌/◌, ◌%◌, ◌^◌, ◌<◌, ◌≤◌, subst, le_trans, arith, shr_lt}
 use Prim.Native.Nat.{compare}
 use lib.Ieee.{binary64, of_bits}
 use lib.Ieee.Fits.{nearest-le}
@@ -18,20 +18,20 @@ at c = place_in c.args.g c.args.e c.requires.g_nonzero c.requires.g_bound c.requ
 
 rooted : (c : goal.After-root_digits-d) → Rooted (c.args.g * 2 ^ shift c.args.g c.args.e) c.root_digits-d.result.q c.root_digits-d.result.r
 rooted c =
-    let a = c in
+    let a = c.before in
     subst (λ (x : ℕ). Rooted x c.root_digits-d.result.q c.root_digits-d.result.r) (shifted a.args.g a.requires.g_nonzero a.requires.g_bound a.args.e) c.root_digits-d.ensures
 
 under : (c : goal.After-root_digits-d) → c.root_digits-d.result.q < 2 ^ 54
-under c = let a = c in lt a.args.g a.args.e a.requires.g_nonzero a.requires.g_bound a.requires.e_bound c.root_digits-d.result.q c.root_digits-d.result.r (rooted c)
+under c = let a = c.before in lt a.args.g a.args.e a.requires.g_nonzero a.requires.g_bound a.requires.e_bound c.root_digits-d.result.q c.root_digits-d.result.r (rooted c)
 
 -- the root with its sticky digit
-half : (c : goal.After-sticky) → let k = c in let a = k.before in
-    (k.root-digits.result.q * 2 + c.sticky.result < 36028797018963968)
-    × (of_bits binary64 (place a.args.g a.args.e * 4503599627370496 + closest (k.root-digits.result.q * 2 + c.sticky.result) 4) ≡ root_of binary64 (a.args.g * 2 ^ (a.args.e + 1074)))
+half : (c : goal.After-sticky) → let k = c.before.before in let a = k.before in
+    (k.root_digits-d.result.q * 2 + c.sticky.result < 36028797018963968)
+    × (of_bits binary64 (place a.args.g a.args.e * 4503599627370496 + closest (k.root_digits-d.result.q * 2 + c.sticky.result) 4) ≡ root_of binary64 (a.args.g * 2 ^ (a.args.e + 1074)))
 half c =
-    let k = c in
+    let k = c.before.before in
     let a = k.before in
-    halved a.args.g a.args.e a.requires.g_nonzero a.requires.g_bound a.requires.e_bound k.root-digits.result.q k.root-digits.result.r (rooted k) c.sticky.result c.sticky.ensures
+    halved a.args.g a.args.e a.requires.g_nonzero a.requires.g_bound a.requires.e_bound k.root_digits-d.result.q k.root_digits-d.result.r (rooted k) c.sticky.result c.sticky.ensures
 
 small : (k c : ℕ) → k ≤ 1538 → c ≤ 9007199254740992 → k * 4503599627370496 + c < 18446744073709551616
 small k c a b = omega arith
@@ -62,7 +62,7 @@ overflow_add-halves c = let h = (half c).0 in record { fits = omega arith }
 
 pub overflow_add-result : goal.overflow_add-result
 overflow_add-result c =
-    let a = c in
+    let a = c.before.before.before.before in
     record { fits = rw c.nearest.ensures (small (place a.args.g a.args.e) _ (at a).0 (closest_le _ (half c.before).0)) }
 
 pub returns : goal.returns

@@ -1,6 +1,5 @@
 -- `floats::wide_from_bits` meets its contract. Assumes nothing.
 use lib.Ieee.{binary64, of_bits}
-use Rattle.std.proofs.Common.{rules}
 use Rattle.floats.proofs.Numbers.{nan_pattern, number-pattern, zero_by_zero}
 use Rattle.floats.proofs.wide_from_bits.Goals as goal
 

@@ -1,6 +1,5 @@
 -- `floats::wide_to_bits` meets its contract. Assumes nothing.
 use lib.Ieee.{binary64, is_nan}
-use Rattle.std.proofs.Common.{rules}
 use Rattle.floats.proofs.Numbers.{differing, nan-bits, no_nan, not-false}
 use Rattle.floats.proofs.wide_to_bits.Goals as goal
 
