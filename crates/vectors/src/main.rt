@@ -1,8 +1,11 @@
 // Runs vectors that independent programs made (tools/float_vectors.py, tools/logistic_vectors.py) and compares every bit of each answer.
 // It writes a line for each file: how many were compared, how many differ, and the first that does.
 #![tactic(auto)]
-use libc::STDOUT_FILENO;
+
 use logistic::Logistic;
+use std::io::Read;
+use std::rt::Files;
+use std::{fs, io};
 
 // What is compared.
 #[derive(Clone, Copy)]
@@ -142,7 +145,7 @@ fn compare(helper: Helper, bytes: &[u8], before: Tally) -> Tally {
 }
 
 // The cases of a whole file. The turns are bounded by a number that no file uses up.
-fn compare_file(helper: Helper, file: i32) -> Tally {
+fn compare_file<R: Read>(helper: Helper, file: &mut R) -> io::Result<Tally> {
     let mut tally = Tally {
         compared: 0,
         differ: 0,
@@ -152,81 +155,67 @@ fn compare_file(helper: Helper, file: i32) -> Tally {
     };
     let mut turns = u64::MAX;
     while turns > 0 {
-        let mut buffer = io::large_buffer();
-        let n = io::read_full(file, &mut buffer);
+        let mut buffer = [0u8; 65536];
+        let n = reading::read_full(file, &mut buffer)?;
         if n == 0 {
-            return tally;
+            return Ok(tally);
         }
         tally = compare(helper, &buffer[..n], tally);
         turns -= 1;
     }
-    tally
+    Ok(tally)
 }
 
-fn text(t: &[u8]) {
-    io::write_all(STDOUT_FILENO, t);
+fn report(rt: &impl Print, name: &str, t: Tally) -> io::Result<()> {
+    println!(rt; "{name}: {} compared, {} differ", t.compared, t.differ)
 }
 
-fn field(name: &[u8], value: u64) {
-    text(name);
-    io::print_hex(STDOUT_FILENO, value, 16);
-}
-
-fn report(name: &[u8], t: Tally) {
-    text(name);
-    text(b": ");
-    io::print_decimal(STDOUT_FILENO, t.compared);
-    text(b" compared, ");
-    io::print_decimal(STDOUT_FILENO, t.differ);
-    text(b" differ\n");
-}
-
-fn report_first(t: Tally) {
+fn report_first(rt: &impl Print, t: Tally) -> io::Result<()> {
     if t.differ == 0 {
-        return;
+        return Ok(());
     }
-    field(b"  first: input ", t.input);
-    field(b", answer ", t.answer);
-    field(b", right ", t.right);
-    text(b"\n");
+    println!(rt;
+        "  first: input {:016x}, answer {:016x}, right {:016x}",
+        t.input, t.answer, t.right
+    )
 }
 
-fn run(helper: Helper, name: &[u8]) {
-    let file = os::open_read(name);
-    if file < 0 {
-        os::fail(name);
-        return;
+// A file that cannot be opened is named on standard error.
+fn run(rt: &(impl Files + Print + Eprint), helper: Helper, name: &str) -> io::Result<()> {
+    match fs::open(rt, name) {
+        Ok(mut file) => {
+            let tally = compare_file(helper, &mut file)?;
+            report(rt, name, tally)?;
+            report_first(rt, tally)
+        }
+        Err(e) => eprintln!(rt; "{name}: {e}"),
     }
-    let tally = compare_file(helper, file);
-    libc::close(file);
-    report(name, tally);
-    report_first(tally);
 }
 
-fn run_floats() {
-    run(Helper::Root, b"roots");
-    run(Helper::Narrow, b"narrowings");
-    run(Helper::Widen, b"widenings");
-    run(Helper::Clamp, b"clamps");
+fn run_floats(rt: &(impl Files + Print + Eprint)) -> io::Result<()> {
+    run(rt, Helper::Root, "roots")?;
+    run(rt, Helper::Narrow, "narrowings")?;
+    run(rt, Helper::Widen, "widenings")?;
+    run(rt, Helper::Clamp, "clamps")
 }
 
-fn run_patterns() {
-    run(Helper::Finite, b"finite");
-    run(Helper::FiniteWide, b"finite_wide");
-    run(Helper::FromBits, b"patterns");
-    run(Helper::BitsFinite, b"finite_patterns");
+fn run_patterns(rt: &(impl Files + Print + Eprint)) -> io::Result<()> {
+    run(rt, Helper::Finite, "finite")?;
+    run(rt, Helper::FiniteWide, "finite_wide")?;
+    run(rt, Helper::FromBits, "patterns")?;
+    run(rt, Helper::BitsFinite, "finite_patterns")
 }
 
-fn run_logistic() {
-    run(Helper::Score, b"logistic_table");
-    run(Helper::Score, b"logistic_multiples");
-    run(Helper::Score, b"logistic_edges");
-    run(Helper::Score, b"logistic_spread");
-    run(Helper::Presence, b"logistic_presence");
+fn run_logistic(rt: &(impl Files + Print + Eprint)) -> io::Result<()> {
+    run(rt, Helper::Score, "logistic_table")?;
+    run(rt, Helper::Score, "logistic_multiples")?;
+    run(rt, Helper::Score, "logistic_edges")?;
+    run(rt, Helper::Score, "logistic_spread")?;
+    run(rt, Helper::Presence, "logistic_presence")
 }
 
-fn main() {
-    run_floats();
-    run_patterns();
-    run_logistic();
+fn main(rt: HostRuntime) -> io::Result<()> {
+    run_floats(&rt)?;
+    run_patterns(&rt)?;
+    run_logistic(&rt)
 }
