@@ -1,10 +1,10 @@
 -- What the answer of a test says. Assumes nothing.
 use mathlib.Core.Path.{◌≡◌, refl, sym, subst, ◌∙◌}
-use mathlib.Core.Bool.{Bool, true, false, not, ◌&&◌, cond}
+use mathlib.Core.Bool.{Bool, true, false, ◌&&◌, cond}
 use Prim.Native.Nat.{ℕ, ◌+◌, ◌-◌, ◌<◌}
 use native.Mathlib.Omega.{arith}
 use lib.Dec.{T, leb}
-use borrow.Author.Tests.{le-leb, lt-leb, leb-true, leb-false, not-true, not-false}
+use borrow.Author.Tests.{le-leb, lt-leb, leb-true, leb-false}
 
 -- ---- a test's value
 
@@ -50,11 +50,11 @@ leb_less n k h =
 
 -- ---- a function gave a test, and `if !..` went on, or in
 
-pub passed : {b e : Bool} → b ≡ e → not b ≡ false → e ≡ true
-passed {b} g h = sym g ∙ not-false b h
+pub passed : {b e : Bool} → b ≡ e → b ≡ true → e ≡ true
+passed g h = sym g ∙ h
 
-pub failed : {b e : Bool} → b ≡ e → not b ≡ true → e ≡ false
-failed {b} g h = sym g ∙ not-true b h
+pub failed : {b e : Bool} → b ≡ e → b ≡ false → e ≡ false
+failed g h = sym g ∙ h
 
 pub and2 : (a b : Bool) → (a && b) ≡ true → (a ≡ true) × (b ≡ true)
 and2 true b t = (refl, t)

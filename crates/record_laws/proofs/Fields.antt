@@ -10,7 +10,7 @@ use lib.Dec.{ltb, leb, lit<}
 use lib.ListN.{drop, get_or, length, take, take-append-drop}
 use lib.Seq.{length-take-le, get_or-drop}
 use Rattle.records.specs.Numbers.{Found, found, fault, number_in, number_bytes}
-use Rattle.records.specs.Fields.{Field, number, flag, count, float, float_in, at_most, field_in, Fields}
+use Rattle.records.specs.Fields.{Field, number, flag, count, float, float_in, at_most, field_in}
 use Rattle.records.specs.Records.{float_bytes}
 use Rattle.records.specs.declared.Fault.{Fault}
 use Rattle.records.specs.declared.Fault.TheVariants.{Cut, Flag, Count}

@@ -2,7 +2,7 @@
 -- Assumes nothing.
 use mathlib.Core.Path.{◌≡◌, refl, ap, ◌∙◌}
 use mathlib.Core.List.{List, [], ◌∷◌, ◌++◌}
-use Prim.Native.Nat.{ℕ, ◌+◌}
+use Prim.Native.Nat.{ℕ}
 use lib.ListN.{replicate}
 use Rattle.records.specs.Fields.{float, Fields, whole, stopped, fields_in}
 use Rattle.records.specs.Records.{numbers, header_of, float_count, Reading, none, refused, with_floats, with_numbers, record_in}

@@ -3,12 +3,12 @@
 use mathlib.Core.Path.{◌≡◌, refl, sym, ap, ◌∙◌}
 use mathlib.Core.List.{List, [], ◌∷◌, ◌++◌, append_assoc}
 use mathlib.Core.Bool.{Bool, true, false}
-use Prim.Native.Nat.{ℕ, zero, suc, ◌+◌, ◌*◌, ◌^◌, ◌≤◌, ◌<◌}
+use Prim.Native.Nat.{ℕ, zero, suc, ◌*◌, ◌^◌, ◌≤◌, ◌<◌}
 use native.Mathlib.Nat.{not-suc-le-zero, le_of_suc-le-suc}
 use lib.Dec.{eqb, lit<, lit≤}
 use lib.ListN.{length, get_or, replicate}
 use Rattle.records.specs.Numbers.{number_bytes}
-use Rattle.records.specs.Fields.{float, whole}
+use Rattle.records.specs.Fields.{float}
 use Rattle.records.specs.Records.{numbers, header_of, with_quality, each, float_bytes, flag_number, numbers_of, record_bytes}
 use Rattle.records.specs.declared.Header.{Header}
 use Rattle.record_laws.proofs.Rows.{row_bytes, FitRow, most_row}

@@ -10,7 +10,7 @@ use borrow.Author.Tests.{le-leb, lt-leb, leb-true, eqb-true}
 use lib.Dec.{leb, eqb}
 use lib.ListN.{length, drop, drop_of_length-le}
 use lib.Seq.{sets, drop-cons}
-use Rattle.records.specs.Fields.{number, Fields, whole, stopped, fields_in}
+use Rattle.records.specs.Fields.{Fields, whole, stopped, fields_in}
 use Rattle.records.specs.Records.{Reading, numbers, header_of, with_numbers, floats_after, record_in, record_at, record_bytes}
 use Rattle.records.specs.Answers.{Value, nothing, place, header, Answer, answer, fault_number, paper, paper_wrote, Read, read, stored, stores_long, read_of, Write, write, counted, write_of}
 use Rattle.records.specs.Parts.{head_read}

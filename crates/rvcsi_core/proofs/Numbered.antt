@@ -1,5 +1,5 @@
 -- What the counters hand out: each number but 2^64 - 1, once, in order. Assumes nothing.
-use Prim.Native.Nat.{ℕ, ◌+◌, ◌<◌, ◌≤◌}
+use Prim.Native.Nat.{ℕ, ◌+◌, ◌<◌}
 use mathlib.Core.Path.{◌≡◌, refl}
 use mathlib.Core.Bool.{Bool, true, false, cond}
 use native.Mathlib.Omega.{arith}
@@ -7,7 +7,6 @@ use lib.Dec.{eqb}
 use borrow.Author.Tests.{eq-eqb, ne_eqb}
 use Rattle.rvcsi_core.specs.Counters.{last, minted, next_window, next_event}
 use Rattle.rvcsi_core.specs.declared.ids.Ids.{Ids}
-use Rattle.rvcsi_core.specs.declared.ids.Taken.{Taken}
 use Rattle.rvcsi_core.specs.declared.ids.Taken.TheVariants.{Number, Full}
 use Rattle.rvcsi_core.specs.declared.ids.Minted.{Minted}
 

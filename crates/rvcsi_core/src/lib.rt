@@ -1,5 +1,6 @@
 // What the parts of the sensing chain hand to each other: counters, frames, windows and events.
 #![tactic(auto)]
+
 ghost use Rattle.std.specs.Prelude.{◌≡◌};
 ghost use Rattle.rvcsi_core.specs.Score.{score_ok};
 ghost use Rattle.rvcsi_core.specs.Settings.{threshold_ok};
