@@ -1,6 +1,7 @@
 // Three of the four detectors: presence, motion and quality. Settings and states travel by value; each module has the detector's settings, its state,
 // `default`, `accepted`, `with_config`, `in_range`, `moved` and `on_window`. What the drift detector shares with them stands here.
 #![tactic(auto)]
+
 ghost use Rattle.std.specs.Prelude.{◌≡◌};
 ghost use Rattle.detectors.specs.Common.{limits_ok, counts_ok, over_twice};
 

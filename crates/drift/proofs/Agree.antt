@@ -6,7 +6,7 @@ use Prim.Native.Nat.{◌≤◌}
 use lib.Dec.{eqb}
 use lib.ListN.{length, get_or}
 use lib.Ieee.{Float}
-use Rattle.detectors.specs.Answers.{Said, said, quiet, Result, Answer, taken, refusal}
+use Rattle.detectors.specs.Answers.{quiet, Result, Answer, taken, refusal}
 use Rattle.detectors.proofs.Agree.{read_agree, unsaid, unsaid_said}
 use Rattle.drift.specs.declared.BaselineDriftConfig.{BaselineDriftConfig}
 use Rattle.drift.specs.declared.DriftState.{DriftState}

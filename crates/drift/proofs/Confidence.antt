@@ -2,7 +2,7 @@
 use mathlib.Core.Path.{◌≡◌, refl, sym, ap, subst, ◌∙◌}
 use mathlib.Core.Bool.{Bool, true, false, not, ◌&&◌, cond}
 use mathlib.Core.List.{List, [], ◌∷◌}
-use Prim.Native.Nat.{ℕ, zero, suc, ◌+◌, ◌*◌, ◌<◌, ◌≤◌, ◌^◌}
+use Prim.Native.Nat.{ℕ, zero, suc, ◌+◌, ◌*◌, ◌<◌, ◌^◌}
 use native.Mathlib.Nat.{mul-pos, zero-mul, mul-zero}
 use native.Mathlib.Omega.{arith}
 use borrow.Author.Tests.{ne_eqb, leb-true}
@@ -14,7 +14,7 @@ use lib.Ieee.Fits.{round_is, up_pos, down_pos}
 use lib.Ieee.Order.{round_mono}
 use lib.Ieee.Positive.{mul_mono}
 use lib.Ieee.Scale.{finite, overflow}
-use Rattle.floats.specs.Clamp.{zero32, clamp_of}
+use Rattle.floats.specs.Clamp.{zero32}
 use Rattle.floats.proofs.Order as order
 use Rattle.floats.proofs.Exact.{some, div_number}
 use Rattle.floats.proofs.Numbers.{not-false}
@@ -24,15 +24,15 @@ use Rattle.rvcsi_core.specs.Settings.{million}
 use Rattle.rvcsi_core.proofs.Tested.{holds, shown, is_false, either}
 use Rattle.rvcsi_core.proofs.Valid.{clamped_score}
 use Rattle.detectors.specs.Common.{two32, over_twice}
-use Rattle.detectors.specs.Answers.{Said, said, quiet, Valid, Result, Answer, taken, refusal, unless}
+use Rattle.detectors.specs.Answers.{Said, said, Valid, Result, Answer, taken, refusal, unless}
 use Rattle.detectors.specs.declared.Judgement.{Judgement}
-use Rattle.detectors.specs.declared.Judgement.TheVariants.{Quiet, BaselineChanged, AnomalyDetected}
+use Rattle.detectors.specs.declared.Judgement.TheVariants.{Quiet, AnomalyDetected}
 use Rattle.detectors.proofs.Confidence.{le_numbers}
 use Rattle.drift.specs.declared.BaselineDriftConfig.{BaselineDriftConfig}
 use Rattle.drift.specs.declared.DriftState.{DriftState}
 use Rattle.drift.specs.Settings.{drift_accepted}
 use Rattle.drift.specs.Drift.{most, length_ok, drift_in, Drifted, anomaly_if, streak_of, weighed, measured, drift_move, leaves, drift_step}
-use Rattle.drift.proofs.Thresholds.{Threshold, Settings, settings}
+use Rattle.drift.proofs.Thresholds.{Threshold, settings}
 use Rattle.drift.proofs.Ranges.{each_way}
 
 -- ---- a value above 0 is a number other than 0

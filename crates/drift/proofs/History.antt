@@ -5,13 +5,13 @@ use mathlib.Core.List.{List, [], ◌∷◌, ◌++◌}
 use Prim.Native.Nat.{ℕ, zero, suc, ◌+◌, ◌-◌, ◌≤◌, ◌<◌, zero-le}
 use native.Mathlib.Omega.{arith}
 use borrow.Author.Tests.{le-leb, lt-leb, leb-true, leb-false}
-use lib.Dec.{leb, eqb}
+use lib.Dec.{leb}
 use lib.ListN.{length, drop}
 use lib.Ieee.{Float, lt}
 use Rattle.lists.proofs.Paste.{laid-fits}
 use Rattle.rvcsi_core.proofs.Tested.{known, either, leb_less}
 use Rattle.detectors.specs.Common.{over_twice}
-use Rattle.detectors.specs.Answers.{Said, said, quiet, event, anomaly, baseline-changed, taken}
+use Rattle.detectors.specs.Answers.{said, quiet, event, anomaly, baseline-changed, taken}
 use Rattle.detectors.specs.declared.Judgement.{Judgement}
 use Rattle.detectors.specs.declared.Judgement.TheVariants.{Quiet, BaselineChanged, AnomalyDetected}
 use Rattle.drift.specs.declared.BaselineDriftConfig.{BaselineDriftConfig}
@@ -20,10 +20,10 @@ use Rattle.drift.specs.declared.Baseline.TheVariants.{Unset, Set}
 use Rattle.drift.specs.declared.DriftState.{DriftState}
 use Rattle.drift.specs.Settings.{drift_accepted, drift_fresh, drift_new}
 use Rattle.drift.specs.Distance.{distance_of}
-use Rattle.drift.specs.Drift.{most, drift_in, Drifted, judging, begun, anomaly_if, streak_of, weighed, measured, drift_move, result, leaves, drift_step}
+use Rattle.drift.specs.Drift.{most, drift_in, Drifted, judging, begun, anomaly_if, streak_of, weighed, measured, drift_move, leaves, drift_step}
 use Rattle.drift.specs.History.{Few, drift_run, first_says, second_says, holds, farther, drifts, is_quiet, drifted_for}
 use Rattle.drift.proofs.Thresholds.{settings}
-use Rattle.drift.proofs.Ranges.{each_way, move_length, After, move_after, drift_begins, drift_stays}
+use Rattle.drift.proofs.Ranges.{each_way, move_length, move_after, drift_begins, drift_stays}
 use Rattle.drift.proofs.Steps as law
 
 -- ---- numbers

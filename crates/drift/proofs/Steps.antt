@@ -1,11 +1,11 @@
 -- What the code does, step by step, makes the definitions. Assumes nothing.
 use Prim.Native.Nat.{ℕ, ◌≤◌, ◌<◌, min}
-use mathlib.Core.Path.{◌≡◌, refl, sym, ap, ◌∙◌}
-use mathlib.Core.Bool.{Bool, true, false, ◌&&◌}
+use mathlib.Core.Path.{◌≡◌}
+use mathlib.Core.Bool.{true, false, ◌&&◌}
 use mathlib.Core.List.{List}
 use native.Mathlib.Nat.{min-eq_left}
 use borrow.Author.Tests.{le-leb, lt-leb, eq-eqb, ne_eqb, ltb-true}
-use lib.Dec.{leb, ltb, eqb}
+use lib.Dec.{ltb}
 use lib.IntN.{pos}
 use lib.ListN.{length}
 use lib.Ieee.{Float, binary32, binary64, div, of_int, le, of_bits}
@@ -17,14 +17,14 @@ use Rattle.lists.specs.Fold.{sum_to}
 use Rattle.lists.specs.Squares.{square_at, away_at}
 use Rattle.lists.specs.Laid.{laid}
 use Rattle.detectors.specs.Common.{over_twice}
-use Rattle.detectors.specs.Answers.{Answer, taken, refusal}
+use Rattle.detectors.specs.Answers.{taken, refusal}
 use Rattle.detectors.specs.declared.Judgement.{Judgement}
 use Rattle.detectors.specs.declared.Judgement.TheVariants.{Quiet, BaselineChanged}
 use Rattle.drift.specs.declared.BaselineDriftConfig.{BaselineDriftConfig}
 use Rattle.drift.specs.declared.Baseline.TheVariants.{Unset, Set}
 use Rattle.drift.specs.declared.DriftState.{DriftState}
 use Rattle.drift.specs.Settings.{drift_accepted}
-use Rattle.drift.specs.Distance.{root_mean, rms_of, rms_distance, relative_to, distance_of}
+use Rattle.drift.specs.Distance.{root_mean, relative_to, distance_of}
 use Rattle.drift.specs.Drift.{most, length_ok, drift_in, anomaly_if, streak_of, ewma, Drifted, judging, begun, weighed, measured, drift_move, Driving, leaves, drift_step}
 
 -- ---- the distance

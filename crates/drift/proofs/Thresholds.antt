@@ -1,7 +1,7 @@
 -- What accepted settings say. Assumes nothing.
 use mathlib.Core.Path.{◌≡◌, refl}
 use mathlib.Core.Bool.{Bool, true, false, ◌&&◌, false≢true}
-use Prim.Native.Nat.{ℕ, ◌<◌}
+use Prim.Native.Nat.{◌<◌}
 use borrow.Author.Tests.{leb-true}
 use lib.Dec.{T, leb}
 use lib.Ieee.{Float, le, lt}

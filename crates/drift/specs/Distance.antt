@@ -1,5 +1,5 @@
 -- How far a list is from the baseline, which stands in its store from place 0.
-use Rattle.std.specs.Prelude.{Bool, cond, List, ℕ, eqb, pos, length, Float}
+use Rattle.std.specs.Prelude.{cond, List, ℕ, eqb, pos, length, Float}
 use Rattle.std.specs.Float.{binary32, binary64}
 use Rattle.std.specs.Float.Ieee.{le, div, of_int, of_bits}
 use Rattle.floats.specs.Clamp.{zero32}

@@ -1,5 +1,6 @@
 // Baseline drift: the mean list of a window against a baseline, which stands in a lent store from place 0.
 #![tactic(auto)]
+
 ghost use Rattle.std.specs.Prelude.{◌≡◌, ◌≤◌, ◌<◌, length};
 ghost use Rattle.std.specs.Float.{binary32, binary64};
 ghost use Rattle.std.specs.Float.Ieee.{div};

@@ -1,7 +1,7 @@
 -- Digits, the last written first, and the zeros in front of them.
 -- Assumes nothing.
 use mathlib.Core.Path.{◌≡◌, refl, sym, ap, ◌∙◌, subst}
-use mathlib.Core.List.{List, [], ◌∷◌, ◌++◌}
+use mathlib.Core.List.{List, [], ◌∷◌}
 use mathlib.Core.Bool.{Bool, true, false, cond}
 use Prim.Native.Nat.{ℕ, zero, suc, ◌+◌, ◌-◌, ◌/◌, ◌%◌, ◌≤◌, ◌<◌}
 use native.Mathlib.Nat.{le_refl}
@@ -9,7 +9,7 @@ use native.Mathlib.Numerals.{add-one, sub-one}
 use native.Mathlib.Omega.{arith}
 use borrow.Author.Tests.{eq-eqb, eqb-true, lt-ltb, le-ltb}
 use lib.Dec.{eqb}
-use lib.ListN.{length, get_or, set, take, drop, length-append, length-set, length-drop, drop_of_length-le}
+use lib.ListN.{length, get_or, set, take, drop, length-append, length-set, length-drop}
 use lib.Seq.{sets, drop-cons, take_all}
 use Rattle.listing.specs.Text.{glyph, digits, trimmed, decimal, hex}
 use Rattle.listing.specs.Lines.{field, bits_field, Placed}

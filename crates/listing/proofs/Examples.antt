@@ -1,8 +1,7 @@
 -- 01's example lines, by computation, and lines at the limits.
 -- Assumes nothing.
 use mathlib.Core.Path.{◌≡◌, refl}
-use mathlib.Core.List.{List, [], ◌∷◌}
-use Prim.Native.Nat.{ℕ}
+use mathlib.Core.List.{[], ◌∷◌}
 use lib.Ieee.{binary32, of_bits, to_bits}
 use Rattle.rvcsi_core.specs.declared.event.CsiEvent.{CsiEvent}
 use Rattle.rvcsi_core.specs.declared.event.CsiEventKind.TheVariants.{SignalQualityDropped}

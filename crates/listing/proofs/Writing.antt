@@ -2,11 +2,11 @@
 -- Assumes nothing.
 use mathlib.Core.Path.{◌≡◌, refl, sym, ap, ◌∙◌, subst}
 use mathlib.Core.List.{List, [], ◌∷◌, ◌++◌}
-use Prim.Native.Nat.{ℕ, zero, suc, ◌+◌, ◌≤◌, ◌<◌}
+use Prim.Native.Nat.{ℕ, suc, ◌+◌, ◌≤◌, ◌<◌}
 use native.Mathlib.Nat.{add-zero, add-suc, suc-add}
 use native.Mathlib.Numerals.{add-one}
 use native.Mathlib.Omega.{arith}
-use lib.ListN.{length, get_or, set, take, drop, length-append, length-set, length-drop, drop_of_length-le}
+use lib.ListN.{length, get_or, set, take, drop, length-append, length-set, drop_of_length-le}
 use lib.Seq.{sets, length-sets, sets-eq, set_comm, drop-cons}
 use Rattle.rvcsi_core.specs.declared.event.CsiEventKind.{CsiEventKind}
 use Rattle.rvcsi_core.specs.declared.event.CsiEventKind.TheVariants.{PresenceStarted, PresenceEnded, MotionDetected, MotionSettled, BaselineChanged, SignalQualityDropped, AnomalyDetected, CalibrationRequired}

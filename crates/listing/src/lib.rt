@@ -1,5 +1,6 @@
 // The listing of a run, on bytes alone: its heading, a line for an event, a refusal and the end, and the counts that the end line gives.
 #![tactic(auto)]
+
 ghost use Rattle.std.specs.Prelude.{◌≡◌, ◌+◌, ◌<◌, ◌≤◌, length, drop};
 ghost use Rattle.std.proofs.lemmas.List.Edits.{sets};
 ghost use Rattle.listing.specs.Text.{digits, trimmed};

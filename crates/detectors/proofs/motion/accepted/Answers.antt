@@ -1,0 +1,12 @@
+-- `motion::accepted` meets its contract.
+use Rattle.lists.proofs.Tests.{passed, failed}
+use Rattle.detectors.specs.Motion.{motion_accepted}
+use Rattle.detectors.proofs.motion.accepted.Goals as goal
+
+pub returns-then-not-limits_ok : goal.returns-then-not-limits_ok
+unfolding motion_accepted
+returns-then-not-limits_ok c = rw (failed c.limits_ok.ensures c.if-not-limits_ok.true)
+
+pub returns : goal.returns
+unfolding motion_accepted
+returns c = rw (passed c.limits_ok.ensures c.if-not-limits_ok.false)

@@ -1,0 +1,12 @@
+-- `presence::in_range` meets its contract.
+use Rattle.lists.proofs.Tests.{passed, failed}
+use Rattle.detectors.specs.Presence.{presence_in}
+use Rattle.detectors.proofs.presence.in_range.Goals as goal
+
+pub returns-then-not-accepted : goal.returns-then-not-accepted
+unfolding presence_in
+returns-then-not-accepted c = rw (failed c.accepted.ensures c.if-not-accepted.true)
+
+pub returns : goal.returns
+unfolding presence_in
+returns c = rw (passed c.accepted.ensures c.if-not-accepted.false, c.count_for.ensures)

@@ -1,0 +1,12 @@
+-- `quality::on_window` meets its contract.
+use Rattle.lists.proofs.Tests.{passed, failed}
+use Rattle.detectors.specs.Quality.{quality_step}
+use Rattle.detectors.proofs.quality.on_window.Goals as goal
+
+pub returns-then-not-in_range : goal.returns-then-not-in_range
+unfolding quality_step
+returns-then-not-in_range c = rw (failed c.in_range.ensures c.if-not-in_range.true)
+
+pub returns : goal.returns
+unfolding quality_step
+returns c = rw (passed c.in_range.ensures c.if-not-in_range.false, ← c.moved-m.ensures)

@@ -1,0 +1,10 @@
+-- `listing::end_line` meets its contract.
+-- Assumes nothing.
+use mathlib.Core.List.{[], ◌∷◌}
+use Rattle.listing.specs.Lines.{end_line}
+use Rattle.listing.proofs.Writing.{line_start, line_done, placed-more}
+use Rattle.listing.proofs.end_line.Goals as goal
+
+pub returns : goal.returns
+unfolding end_line
+returns c = line_done {d₀ = c.args.out.now} (placed-more (placed-more (placed-more (line_start {d₀ = c.args.out.now} (101 ∷ 110 ∷ 100 ∷ 44 ∷ []) c.put-p1.ensures.0 c.put-p1.ensures.1) c.field-p2.ensures) c.field-p3.ensures) c.field.ensures)
