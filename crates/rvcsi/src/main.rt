@@ -1,5 +1,6 @@
 // Reads the recording that its one argument names, or standard input where it has none, and writes its listing.
 #![tactic(auto)]
+
 use std::env::{Env, FillError};
 use std::rt::Files;
 use std::{fs, str};
