@@ -1,46 +1,49 @@
 // The lines of an answer. They go into 65,536 bytes that the caller lends, from place `at`; each function returns the place after what it
-// put there. When the bytes are full they are written to standard output.
+// put there. When the bytes are full they are written out.
 #![tactic(auto)]
 ghost use Rattle.std.specs.Prelude.{◌≡◌, ◌≤◌, length, take};
 
 use rvcsi_core::event::{CsiEvent, CsiEventKind};
 use rvcsi_core::window::CsiWindow;
 use slots::Batch;
+use std::io;
+use std::io::{Cursor, Write};
 
-fn write_part(out: &[u8], at: usize) {
+fn write_part<W: Write>(to: &mut W, out: &[u8], at: usize) -> io::Result<()> {
     let n = lists::shorter(at, out.len());
-    io::write_all(libc::STDOUT_FILENO, &out[..n]);
+    to.write_all(&out[..n])
 }
 
 // Writes the first `at` bytes out.
-pub fn write_out(out: &[u8; 65536], at: usize) {
-    write_part(out, at);
+pub fn write_out<W: Write>(to: &mut W, out: &[u8; 65536], at: usize) -> io::Result<()> {
+    write_part(to, out, at)
 }
 
-pub fn put(out: &mut [u8; 65536], at: usize, b: u8) -> usize {
+pub fn put<W: Write>(to: &mut W, out: &mut [u8; 65536], at: usize, b: u8) -> io::Result<usize> {
     if at < 65536 {
         out[at] = b;
-        return at + 1;
+        return Ok(at + 1);
     }
-    write_out(out, at);
+    write_out(to, out, at)?;
     out[0] = b;
-    1
+    Ok(1)
 }
 
-pub fn put_text(out: &mut [u8; 65536], at: usize, text: &[u8]) -> usize {
-    let mut to = at;
+pub fn put_text<W: Write>(to: &mut W, out: &mut [u8; 65536], at: usize, text: &[u8]) -> io::Result<usize> {
+    let mut end = at;
     for i in 0..text.len() {
-        to = put(out, to, text[i]);
+        end = put(to, out, end, text[i])?;
     }
-    to
+    Ok(end)
 }
 
 // A space, and n in decimal.
-pub fn put_number(out: &mut [u8; 65536], at: usize, n: u64) -> usize {
-    let mut digits = [0u8; 20];
-    let k = io::decimal(n, &mut digits);
-    let to = put(out, at, b' ');
-    put_text(out, to, &digits[..k])
+pub fn put_number<W: Write>(to: &mut W, out: &mut [u8; 65536], at: usize, n: u64) -> io::Result<usize> {
+    let mut text = Cursor::new([0u8; 21]);
+    write!(text, " {n}")?;
+    let length = (text.position() as usize).min(21);
+    let bytes = text.into_inner();
+    put_text(to, out, at, &bytes[..length])
 }
 
 fn glyph(d: u32) -> u8 {
@@ -54,33 +57,33 @@ fn glyph(d: u32) -> u8 {
 }
 
 // A space, and w as 8 hexadecimal digits.
-pub fn put_word(out: &mut [u8; 65536], at: usize, w: u32) -> usize {
-    let mut to = put(out, at, b' ');
+pub fn put_word<W: Write>(to: &mut W, out: &mut [u8; 65536], at: usize, w: u32) -> io::Result<usize> {
+    let mut end = put(to, out, at, b' ')?;
     let mut rest = w;
     for i in 0usize..8 {
-        to = put(out, to, glyph(rest / 0x1000_0000));
+        end = put(to, out, end, glyph(rest / 0x1000_0000))?;
         rest = rest % 0x1000_0000 * 16;
     }
-    to
+    Ok(end)
 }
 
-pub fn put_float(out: &mut [u8; 65536], at: usize, x: f32) -> usize {
-    put_word(out, at, floats::to_bits(x))
+pub fn put_float<W: Write>(to: &mut W, out: &mut [u8; 65536], at: usize, x: f32) -> io::Result<usize> {
+    put_word(to, out, at, floats::to_bits(x))
 }
 
-pub fn put_floats(out: &mut [u8; 65536], at: usize, list: &[f32]) -> usize {
-    let mut to = at;
+pub fn put_floats<W: Write>(to: &mut W, out: &mut [u8; 65536], at: usize, list: &[f32]) -> io::Result<usize> {
+    let mut end = at;
     for i in 0..list.len() {
-        to = put_float(out, to, list[i]);
+        end = put_float(to, out, end, list[i])?;
     }
-    to
+    Ok(end)
 }
 
 // A line of floats behind a letter.
-pub fn put_list(out: &mut [u8; 65536], at: usize, letter: u8, list: &[f32]) -> usize {
-    let a = put(out, at, letter);
-    let b = put_floats(out, a, list);
-    put(out, b, b'\n')
+pub fn put_list<W: Write>(to: &mut W, out: &mut [u8; 65536], at: usize, letter: u8, list: &[f32]) -> io::Result<usize> {
+    let a = put(to, out, at, letter)?;
+    let b = put_floats(to, out, a, list)?;
+    put(to, out, b, b'\n')
 }
 
 // n, or the length of the list if that is less.
@@ -91,9 +94,9 @@ pub fn fitting(n: usize, list: &[f32]) -> usize
 }
 
 // The same of the first n floats.
-pub fn put_first(out: &mut [u8; 65536], at: usize, letter: u8, n: usize, list: &[f32]) -> usize {
+pub fn put_first<W: Write>(to: &mut W, out: &mut [u8; 65536], at: usize, letter: u8, n: usize, list: &[f32]) -> io::Result<usize> {
     let k = fitting(n, list);
-    put_list(out, at, letter, &list[..k])
+    put_list(to, out, at, letter, &list[..k])
 }
 
 // ---- windows and events
@@ -103,17 +106,17 @@ fn long(x: u32) -> u64 {
 }
 
 // The letter and the fields of a window, with no line end.
-pub fn put_window(out: &mut [u8; 65536], at: usize, letter: u8, w: CsiWindow) -> usize {
-    let a = put(out, at, letter);
-    let b = put_number(out, a, w.window_id);
-    let c = put_number(out, b, w.session_id);
-    let d = put_number(out, c, w.source_id);
-    let e = put_number(out, d, w.start_ns);
-    let f = put_number(out, e, w.end_ns);
-    let g = put_number(out, f, long(w.frame_count));
-    let h = put_float(out, g, w.motion_energy);
-    let i = put_float(out, h, w.presence_score);
-    put_float(out, i, w.quality_score)
+pub fn put_window<W: Write>(to: &mut W, out: &mut [u8; 65536], at: usize, letter: u8, w: CsiWindow) -> io::Result<usize> {
+    let a = put(to, out, at, letter)?;
+    let b = put_number(to, out, a, w.window_id)?;
+    let c = put_number(to, out, b, w.session_id)?;
+    let d = put_number(to, out, c, w.source_id)?;
+    let e = put_number(to, out, d, w.start_ns)?;
+    let f = put_number(to, out, e, w.end_ns)?;
+    let g = put_number(to, out, f, long(w.frame_count))?;
+    let h = put_float(to, out, g, w.motion_energy)?;
+    let i = put_float(to, out, h, w.presence_score)?;
+    put_float(to, out, i, w.quality_score)
 }
 
 fn kind_number(kind: CsiEventKind) -> u64 {
@@ -129,27 +132,27 @@ fn kind_number(kind: CsiEventKind) -> u64 {
     }
 }
 
-fn put_event(out: &mut [u8; 65536], at: usize, event: CsiEvent) -> usize {
+fn put_event<W: Write>(to: &mut W, out: &mut [u8; 65536], at: usize, event: CsiEvent) -> io::Result<usize> {
     let kind = event.kind;
-    let a = put(out, at, b'e');
-    let b = put_number(out, a, event.event_id);
-    let c = put_number(out, b, kind_number(kind));
-    let d = put_number(out, c, event.session_id);
-    let e = put_number(out, d, event.source_id);
-    let f = put_number(out, e, event.timestamp_ns);
-    let g = put_float(out, f, event.confidence);
-    let h = put_number(out, g, event.window_id);
-    put(out, h, b'\n')
+    let a = put(to, out, at, b'e')?;
+    let b = put_number(to, out, a, event.event_id)?;
+    let c = put_number(to, out, b, kind_number(kind))?;
+    let d = put_number(to, out, c, event.session_id)?;
+    let e = put_number(to, out, d, event.source_id)?;
+    let f = put_number(to, out, e, event.timestamp_ns)?;
+    let g = put_float(to, out, f, event.confidence)?;
+    let h = put_number(to, out, g, event.window_id)?;
+    put(to, out, h, b'\n')
 }
 
 // A line for each event of the batch, in order.
-pub fn put_events(out: &mut [u8; 65536], at: usize, batch: Batch) -> usize {
+pub fn put_events<W: Write>(to: &mut W, out: &mut [u8; 65536], at: usize, batch: Batch) -> io::Result<usize> {
     let n = lists::shorter(batch.count, 6);
     let events = batch.events;
-    let mut to = at;
+    let mut end = at;
     for i in 0..n {
         let e = events[i];
-        to = put_event(out, to, e);
+        end = put_event(to, out, end, e)?;
     }
-    to
+    Ok(end)
 }

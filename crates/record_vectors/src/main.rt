@@ -1,10 +1,12 @@
 // Runs the cases of data/vectors through the reader and the writer, and compares reply, place, header, lists and bytes.
 // tools/record_vectors.py makes them, and says how a case is laid out.
 #![tactic(auto)]
+
 ghost use Rattle.std.specs.Prelude.{◌≡◌, ◌+◌, ◌*◌, ◌<◌, ◌≤◌};
 
-use libc::STDOUT_FILENO;
 use records::{Header, ReadRecord, Wrote};
+use std::io::Read;
+use std::{fs, io};
 
 // What stands in a lent list before a call, and in an output.
 const KEPT: u32 = 1515870810;
@@ -467,58 +469,61 @@ fn run_block(block: &[u8], compared: &mut [u64], differs: &mut [u64]) {
     }
 }
 
-fn next_block(fd: i32, compared: &mut [u64], differs: &mut [u64]) -> bool {
-    let mut block = io::large_buffer();
-    let n = io::read_full(fd, &mut block);
+fn next_block<R: Read>(
+    file: &mut R,
+    compared: &mut [u64],
+    differs: &mut [u64],
+) -> io::Result<bool> {
+    let mut block = [0u8; 65536];
+    let n = reading::read_full(file, &mut block)?;
     if n == 0 {
-        return false;
+        return Ok(false);
     }
     run_block(&block[..n], compared, differs);
-    true
+    Ok(true)
 }
 
-fn run_all(fd: i32, compared: &mut [u64], differs: &mut [u64]) {
+fn run_all<R: Read>(file: &mut R, compared: &mut [u64], differs: &mut [u64]) -> io::Result<()> {
     let mut turns = u64::MAX;
-    while turns > 0 && next_block(fd, compared, differs) {
+    while turns > 0 && next_block(file, compared, differs)? {
         turns -= 1;
     }
+    Ok(())
 }
 
-fn write_line(name: &[u8], compared: u64, differs: u64) {
-    io::write_all(STDOUT_FILENO, name);
-    io::print_decimal(STDOUT_FILENO, compared);
+fn write_line(rt: &impl Print, name: &str, compared: u64, differs: u64) -> io::Result<()> {
+    print!(rt; "{name}: {compared}")?;
     if 0 < differs {
-        io::write_all(STDOUT_FILENO, b", the first that differs: ");
-        io::print_decimal(STDOUT_FILENO, differs);
+        print!(rt; ", the first that differs: {differs}")?;
     }
-    io::write_all(STDOUT_FILENO, b"\n");
+    println!(rt; "")
 }
 
-fn write_lines(compared: &[u64; 8], differs: &[u64; 8]) {
+fn write_lines(rt: &impl Print, compared: &[u64; 8], differs: &[u64; 8]) -> io::Result<()> {
     write_line(
-        b"good records, read and written back: ",
+        rt,
+        "good records, read and written back",
         compared[0],
         differs[0],
-    );
-    write_line(b"damaged records: ", compared[1], differs[1]);
-    write_line(b"records cut short: ", compared[2], differs[2]);
-    write_line(b"counts: ", compared[3], differs[3]);
-    write_line(b"short lists: ", compared[4], differs[4]);
-    write_line(b"places at or past the end: ", compared[5], differs[5]);
-    write_line(b"outputs: ", compared[6], differs[6]);
-    write_line(b"wrong counts and lists: ", compared[7], differs[7]);
+    )?;
+    write_line(rt, "damaged records", compared[1], differs[1])?;
+    write_line(rt, "records cut short", compared[2], differs[2])?;
+    write_line(rt, "counts", compared[3], differs[3])?;
+    write_line(rt, "short lists", compared[4], differs[4])?;
+    write_line(rt, "places at or past the end", compared[5], differs[5])?;
+    write_line(rt, "outputs", compared[6], differs[6])?;
+    write_line(rt, "wrong counts and lists", compared[7], differs[7])
 }
 
-fn main() {
-    let path = b"vectors";
-    let fd = os::open_read(path);
-    if fd < 0 {
-        os::fail(path);
-        return;
+fn main(rt: HostRuntime) -> io::Result<()> {
+    let path = "vectors";
+    match fs::open(&rt, path) {
+        Ok(mut file) => {
+            let mut compared = [0u64; 8];
+            let mut differs = [0u64; 8];
+            run_all(&mut file, &mut compared, &mut differs)?;
+            write_lines(&rt, &compared, &differs)
+        }
+        Err(e) => eprintln!(rt; "{path}: {e}"),
     }
-    let mut compared = [0u64; 8];
-    let mut differs = [0u64; 8];
-    run_all(fd, &mut compared, &mut differs);
-    libc::close(fd);
-    write_lines(&compared, &differs);
 }

@@ -1,4 +1,4 @@
-// A recording as it is read: a bounded buffer over an open file, and the record at a place of it.
+// A recording as it is read: a bounded buffer over a reader, and the record at a place of it.
 #![tactic(auto)]
 ghost use Rattle.std.specs.Prelude.{◌≡◌, ◌-◌, min, length, take, drop};
 ghost use Rattle.records.specs.Answers.{paper};
@@ -6,6 +6,7 @@ ghost use Rattle.recording.specs.Place.{place_of};
 ghost use Rattle.recording.specs.Heard.{floats_over, heard, heard_of};
 
 use records::ReadRecord;
+use std::io::Read;
 
 // No record is longer. Before each, this many bytes are at hand, or all that are left.
 const LONGEST: usize = 4135;
@@ -52,47 +53,46 @@ fn shift(buf: &mut [u8], at: usize, have: usize) -> usize
 }
 
 // One read behind the bytes at hand.
-fn read_once(fd: i32, buf: &mut [u8], c: Cursor) -> Cursor
+fn read_once<R: Read>(rt: &impl Eprint, reader: &mut R, buf: &mut [u8], c: Cursor) -> Cursor
     ensures { (result.base ≡ c.base) × (result.at ≡ c.at) }
 {
     let from = lists::shorter(c.have, buf.len());
-    let got = libc::read(fd, &mut buf[from..]);
-    if got < 0 {
-        os::fail(b"rvcsi: the recording cannot be read");
-        return Cursor {
+    match reader.read(&mut buf[from..]) {
+        Ok(more) => Cursor {
             base: c.base,
             at: c.at,
-            have: from,
-            ended: true,
-            failed: true,
-        };
-    }
-    let more = io::count(got, &buf[from..]);
-    let have = from + more;
-    Cursor {
-        base: c.base,
-        at: c.at,
-        have,
-        ended: more == 0,
-        failed: false,
+            have: from + more,
+            ended: more == 0,
+            failed: false,
+        },
+        Err(e) => {
+            let _ = eprintln!(rt; "rvcsi: the recording cannot be read: {e}");
+            Cursor {
+                base: c.base,
+                at: c.at,
+                have: from,
+                ended: true,
+                failed: true,
+            }
+        }
     }
 }
 
-// Reads until the buffer is full or the input ends.
-pub fn fill(fd: i32, buf: &mut [u8], c: Cursor) -> Cursor
+// Reads until the buffer is full or the input ends. Where a read fails, it says so on standard error.
+pub fn fill<R: Read>(rt: &impl Eprint, reader: &mut R, buf: &mut [u8], c: Cursor) -> Cursor
     ensures { (result.base ≡ c.base) × (result.at ≡ c.at) }
 {
     let mut next = c;
     let mut turns = buf.len();
     while 0 < turns && !next.ended && next.have < buf.len() {
-        next = read_once(fd, buf, next);
+        next = read_once(rt, reader, buf, next);
         turns -= 1;
     }
     next
 }
 
 // Sees to it that a whole record is at hand, or the input's end.
-pub fn refill(fd: i32, buf: &mut [u8], c: Cursor) -> Cursor
+pub fn refill<R: Read>(rt: &impl Eprint, reader: &mut R, buf: &mut [u8], c: Cursor) -> Cursor
     ensures { place_of result ≡ place_of c }
 {
     if c.ended {
@@ -110,7 +110,7 @@ pub fn refill(fd: i32, buf: &mut [u8], c: Cursor) -> Cursor
         ended: false,
         failed: false,
     };
-    fill(fd, buf, front)
+    fill(rt, reader, buf, front)
 }
 
 // The floats of the first n bit patterns.

@@ -1,33 +1,42 @@
 // Reads the recording that its one argument names, or standard input where it has none, and writes its listing.
 #![tactic(auto)]
-use libc::STDIN_FILENO;
+use std::env::{Env, FillError};
+use std::rt::Files;
+use std::{fs, str};
 
-// The file named by the argument.
-fn run_file() {
-    let mut path = io::buffer();
-    let length = os::arg(1, &mut path);
-    if os::errno() != 0 {
-        os::fail(b"rvcsi: the file's name");
-        return;
+// The file of this name.
+fn run_file(rt: &(impl Files + Print + Eprint), name: &str) {
+    match fs::open(rt, name) {
+        Ok(mut file) => rvcsi_run::run(rt, &mut file),
+        Err(e) => {
+            let _ = eprintln!(rt; "{name}: {e}");
+        }
     }
-    let fd = os::open_read(&path[..length]);
-    if fd < 0 {
-        os::fail(&path[..length]);
-        return;
-    }
-    rvcsi_run::run(fd);
-    libc::close(fd);
 }
 
-fn main() {
-    let count = os::arg_count();
-    if count < 2 {
-        rvcsi_run::run(STDIN_FILENO);
-        return;
+// The file named by the argument, or standard input.
+fn run_argument(rt: &HostRuntime) {
+    let mut name = [0u8; 4096];
+    match rt.arg(1, &mut name) {
+        Ok(length) => match str::from_utf8(&name[..length]) {
+            Ok(text) => run_file(rt, text),
+            Err(e) => {
+                let _ = eprintln!(rt; "rvcsi: the file's name: {e}");
+            }
+        },
+        Err(FillError::NotPresent) => rvcsi_run::run(rt, &mut rt.stdin()),
+        Err(FillError::TooLong) => {
+            let _ = eprintln!(rt; "rvcsi: the file's name: File name too long");
+        }
     }
-    if count == 2 {
-        run_file();
-        return;
+}
+
+fn main(rt: HostRuntime) {
+    let mut second = [0u8; 1];
+    match rt.arg(2, &mut second) {
+        Err(FillError::NotPresent) => run_argument(&rt),
+        _ => {
+            let _ = eprintln!(rt; "usage: rvcsi [FILE]");
+        }
     }
-    io::write_all(libc::STDERR_FILENO, b"usage: rvcsi [FILE]\n");
 }

@@ -7,6 +7,8 @@ use detectors::quality::QualityConfig;
 use drift::BaselineDriftConfig;
 use rvcsi_core::frame::CsiFrame;
 use slots::DetectorConfig;
+use std::io;
+use std::io::Read;
 
 // ---- numbers, low byte first
 
@@ -212,23 +214,28 @@ pub fn read_floats(input: &[u8; 65536], at: usize, n: usize, list: &mut [f32; 60
 }
 
 // Reads behind the first `kept` bytes; returns how many bytes there are then.
-fn read_behind(input: &mut [u8], kept: usize) -> usize {
+fn read_behind<R: Read>(reader: &mut R, input: &mut [u8], kept: usize) -> io::Result<usize> {
     let n = lists::shorter(kept, input.len());
-    let got = io::read_full(libc::STDIN_FILENO, &mut input[n..]);
-    std::num::wrapping_add_usize(n, got)
+    let got = reading::read_full(reader, &mut input[n..])?;
+    Ok(std::num::wrapping_add_usize(n, got))
 }
 
 // Brings the bytes from `from` to `to` to the front and reads behind them; returns how many bytes there are then.
-pub fn refill(input: &mut [u8; 65536], from: usize, to: usize) -> usize {
+pub fn refill<R: Read>(
+    reader: &mut R,
+    input: &mut [u8; 65536],
+    from: usize,
+    to: usize,
+) -> io::Result<usize> {
     if 65536 < to {
-        return 0;
+        return Ok(0);
     }
     if to < from {
-        return 0;
+        return Ok(0);
     }
     let kept = to - from;
     for i in 0..kept {
         input[i] = input[from + i];
     }
-    read_behind(input, kept)
+    read_behind(reader, input, kept)
 }

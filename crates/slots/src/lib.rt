@@ -1,5 +1,6 @@
 // Detectors in slots, in order of adding, and the batch of events that they say of a window.
 #![tactic(auto)]
+
 ghost use Rattle.std.specs.Prelude.{◌≡◌, not, ◌<◌, ◌≤◌, ◌+◌, length, eqb};
 ghost use Rattle.lists.specs.All.{all_to};
 ghost use Rattle.slots.specs.Limits.{places, part};
