@@ -2,15 +2,13 @@
 use Prim.Native.Nat.{ℕ, zero, suc, ◌≤◌, ◌<◌, min}
 use mathlib.Core.Path.{◌≡◌, refl, sym, ap, ◌∙◌}
 use mathlib.Core.Bool.{Bool, true, false, ◌&&◌, ◌||◌, false≢true}
-use mathlib.Core.List.{List, [], ◌∷◌}
+use mathlib.Core.List.{List}
 use native.Mathlib.Omega.{arith}
 use borrow.Author.Tests.{leb-true, leb-false}
 use lib.Dec.{leb}
 use lib.ListN.{length, take}
 use lib.Seq.{take_all}
 use lib.Ieee.{Float}
-use types.Run.{OneOf, miss}
-use denote.Enum.Declared.{tag_of}
 use Rattle.rvcsi_core.specs.declared.frame.CsiFrame.{CsiFrame}
 use Rattle.rvcsi_core.specs.declared.window.CsiWindow.{CsiWindow}
 use Rattle.rvcsi_core.specs.declared.ids.Ids.{Ids}
@@ -25,7 +23,6 @@ use Rattle.buffer_rules.specs.declared.Verdict.{Verdict}
 use Rattle.buffer_rules.specs.declared.Verdict.TheVariants.{Fine, No}
 use Rattle.buffer_rules.specs.declared.WindowBuffer.{WindowBuffer}
 use Rattle.buffer_rules.proofs.Numbers.{refusal_is, plainly, plain, frame-plain, flush-plain}
-use Rattle.window_buffer.specs.contracts.Reply as Declared
 use Rattle.window_buffer.specs.Push.{paper, room_of, take_of, drain_of}
 use Rattle.window_buffer.specs.Push as Push
 use Rattle.window_buffer.specs.declared.Reply.{Reply}
@@ -68,12 +65,12 @@ module _ (i : Ids) (b : WindowBuffer) (p : EventPipeline) (means base : List Flo
   numbered-plain StateOutOfRange = refl
 
   -- the code's other arm
-  other-still : (r : Reply) → OneOf (0 ∷ 2 ∷ []) (tag_of Declared.the_type r) → onward (paper r) i b p means base ≡ still (paper r) i b p base
+  other-still : (r : Reply) → ((w : CsiWindow) (n : ℕ) → r ≡ Closed w n → ⊥) → onward (paper r) i b p means base ≡ still (paper r) i b p base
   other-still Kept k = refl
-  other-still (Closed w n) k = absurd (miss (0 ∷ 2 ∷ []) 1 tt k)
+  other-still (Closed w n) k = absurd (k w n refl)
   other-still (Refused why) k = plain_still (numbered why) (numbered why).number (numbered why).returns (numbered-plain why)
 
-  pub rests : (r : Reply) (e : Batch) → OneOf (0 ∷ 2 ∷ []) (tag_of Declared.the_type r) → e ≡ Batches.nothing
+  pub rests : (r : Reply) (e : Batch) → ((w : CsiWindow) (n : ℕ) → r ≡ Closed w n → ⊥) → e ≡ Batches.nothing
       → record { reply = paper r; ids = i; pipeline = record { buffer = b; detectors = p.detectors; recent = p.recent }; batch = e; baseline = base } ≡ onward (paper r) i b p means base
   rests r e k h =
       (λ t. record { reply = paper r; ids = i; pipeline = record { buffer = b; detectors = p.detectors; recent = p.recent }; batch = (h ∙ nothing_is) t; baseline = base })
