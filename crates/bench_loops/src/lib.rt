@@ -1,6 +1,7 @@
 // Loops over the calls that bench/ measures, for its driver to link. Each answers every input; what it returns lets the driver compare its work with the Rust's.
 // `process_frame` is called in one place, as in a program: the compiler then sees the whole path of a frame at once.
 #![tactic(auto)]
+
 ghost use Rattle.std.specs.Prelude.{◌≡◌, ◌≤◌, length, take};
 
 use pipeline::{EventPipeline, Processed};
