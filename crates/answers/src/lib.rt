@@ -1,6 +1,7 @@
 // The lines of an answer. They go into 65,536 bytes that the caller lends, from place `at`; each function returns the place after what it
 // put there. When the bytes are full they are written out.
 #![tactic(auto)]
+
 ghost use Rattle.std.specs.Prelude.{◌≡◌, ◌≤◌, length, take};
 
 use rvcsi_core::event::{CsiEvent, CsiEventKind};
@@ -29,7 +30,12 @@ pub fn put<W: Write>(to: &mut W, out: &mut [u8; 65536], at: usize, b: u8) -> io:
     Ok(1)
 }
 
-pub fn put_text<W: Write>(to: &mut W, out: &mut [u8; 65536], at: usize, text: &[u8]) -> io::Result<usize> {
+pub fn put_text<W: Write>(
+    to: &mut W,
+    out: &mut [u8; 65536],
+    at: usize,
+    text: &[u8],
+) -> io::Result<usize> {
     let mut end = at;
     for i in 0..text.len() {
         end = put(to, out, end, text[i])?;
@@ -38,7 +44,12 @@ pub fn put_text<W: Write>(to: &mut W, out: &mut [u8; 65536], at: usize, text: &[
 }
 
 // A space, and n in decimal.
-pub fn put_number<W: Write>(to: &mut W, out: &mut [u8; 65536], at: usize, n: u64) -> io::Result<usize> {
+pub fn put_number<W: Write>(
+    to: &mut W,
+    out: &mut [u8; 65536],
+    at: usize,
+    n: u64,
+) -> io::Result<usize> {
     let mut text = Cursor::new([0u8; 21]);
     write!(text, " {n}")?;
     let length = (text.position() as usize).min(21);
@@ -57,7 +68,12 @@ fn glyph(d: u32) -> u8 {
 }
 
 // A space, and w as 8 hexadecimal digits.
-pub fn put_word<W: Write>(to: &mut W, out: &mut [u8; 65536], at: usize, w: u32) -> io::Result<usize> {
+pub fn put_word<W: Write>(
+    to: &mut W,
+    out: &mut [u8; 65536],
+    at: usize,
+    w: u32,
+) -> io::Result<usize> {
     let mut end = put(to, out, at, b' ')?;
     let mut rest = w;
     for i in 0usize..8 {
@@ -67,11 +83,21 @@ pub fn put_word<W: Write>(to: &mut W, out: &mut [u8; 65536], at: usize, w: u32) 
     Ok(end)
 }
 
-pub fn put_float<W: Write>(to: &mut W, out: &mut [u8; 65536], at: usize, x: f32) -> io::Result<usize> {
+pub fn put_float<W: Write>(
+    to: &mut W,
+    out: &mut [u8; 65536],
+    at: usize,
+    x: f32,
+) -> io::Result<usize> {
     put_word(to, out, at, floats::to_bits(x))
 }
 
-pub fn put_floats<W: Write>(to: &mut W, out: &mut [u8; 65536], at: usize, list: &[f32]) -> io::Result<usize> {
+pub fn put_floats<W: Write>(
+    to: &mut W,
+    out: &mut [u8; 65536],
+    at: usize,
+    list: &[f32],
+) -> io::Result<usize> {
     let mut end = at;
     for i in 0..list.len() {
         end = put_float(to, out, end, list[i])?;
@@ -80,7 +106,13 @@ pub fn put_floats<W: Write>(to: &mut W, out: &mut [u8; 65536], at: usize, list: 
 }
 
 // A line of floats behind a letter.
-pub fn put_list<W: Write>(to: &mut W, out: &mut [u8; 65536], at: usize, letter: u8, list: &[f32]) -> io::Result<usize> {
+pub fn put_list<W: Write>(
+    to: &mut W,
+    out: &mut [u8; 65536],
+    at: usize,
+    letter: u8,
+    list: &[f32],
+) -> io::Result<usize> {
     let a = put(to, out, at, letter)?;
     let b = put_floats(to, out, a, list)?;
     put(to, out, b, b'\n')
@@ -94,7 +126,14 @@ pub fn fitting(n: usize, list: &[f32]) -> usize
 }
 
 // The same of the first n floats.
-pub fn put_first<W: Write>(to: &mut W, out: &mut [u8; 65536], at: usize, letter: u8, n: usize, list: &[f32]) -> io::Result<usize> {
+pub fn put_first<W: Write>(
+    to: &mut W,
+    out: &mut [u8; 65536],
+    at: usize,
+    letter: u8,
+    n: usize,
+    list: &[f32],
+) -> io::Result<usize> {
     let k = fitting(n, list);
     put_list(to, out, at, letter, &list[..k])
 }
@@ -106,7 +145,13 @@ fn long(x: u32) -> u64 {
 }
 
 // The letter and the fields of a window, with no line end.
-pub fn put_window<W: Write>(to: &mut W, out: &mut [u8; 65536], at: usize, letter: u8, w: CsiWindow) -> io::Result<usize> {
+pub fn put_window<W: Write>(
+    to: &mut W,
+    out: &mut [u8; 65536],
+    at: usize,
+    letter: u8,
+    w: CsiWindow,
+) -> io::Result<usize> {
     let a = put(to, out, at, letter)?;
     let b = put_number(to, out, a, w.window_id)?;
     let c = put_number(to, out, b, w.session_id)?;
@@ -132,7 +177,12 @@ fn kind_number(kind: CsiEventKind) -> u64 {
     }
 }
 
-fn put_event<W: Write>(to: &mut W, out: &mut [u8; 65536], at: usize, event: CsiEvent) -> io::Result<usize> {
+fn put_event<W: Write>(
+    to: &mut W,
+    out: &mut [u8; 65536],
+    at: usize,
+    event: CsiEvent,
+) -> io::Result<usize> {
     let kind = event.kind;
     let a = put(to, out, at, b'e')?;
     let b = put_number(to, out, a, event.event_id)?;
@@ -146,7 +196,12 @@ fn put_event<W: Write>(to: &mut W, out: &mut [u8; 65536], at: usize, event: CsiE
 }
 
 // A line for each event of the batch, in order.
-pub fn put_events<W: Write>(to: &mut W, out: &mut [u8; 65536], at: usize, batch: Batch) -> io::Result<usize> {
+pub fn put_events<W: Write>(
+    to: &mut W,
+    out: &mut [u8; 65536],
+    at: usize,
+    batch: Batch,
+) -> io::Result<usize> {
     let n = lists::shorter(batch.count, 6);
     let events = batch.events;
     let mut end = at;

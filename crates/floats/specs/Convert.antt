@@ -1,4 +1,4 @@
--- A value taken to the format f, as IEEE 754's convert_format has it: the nearest value of f, a tie to the even one. Definitions only.
+-- A value taken to the format f, as IEEE 754's convertFormat has it: the nearest value of f, a tie to the even one. Definitions only.
 use Rattle.std.specs.Prelude.{◌*◌, Float}
 use Rattle.std.specs.Float.{nan, inf, fin, Format}
 use Rattle.std.specs.Float.Ieee.{up, down, round}

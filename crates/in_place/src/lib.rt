@@ -1,5 +1,6 @@
 // The window and event counters, lent and advanced in place: thin functions over those that take and return the counters by value.
 #![tactic(auto)]
+
 ghost use Rattle.std.specs.Prelude.{◌≡◌};
 ghost use Rattle.rvcsi_core.specs.Counters.{minted, next_window, next_event};
 ghost use Rattle.pipeline.specs.Process.{process_of, flush_of};

@@ -1,5 +1,6 @@
 // A caller of the lent counters: it holds them in a local and lends them for each number.
 #![tactic(auto)]
+
 ghost use Rattle.std.specs.Prelude.{◌≡◌};
 ghost use Rattle.lending.specs.Each.{each_of};
 

@@ -1,5 +1,5 @@
 -- What is heard, by the reader's answer.
-use Rattle.std.proofs.Common.{◌≡◌, ℕ, ◌*◌, min, List, replicate, sym, refl, ap, ◌∙◌}
+use Rattle.std.proofs.Common.{◌≡◌, ℕ, ◌*◌, min, List, replicate}
 use lib.Ieee.{Float}
 use Rattle.records.specs.Answers.{paper, read, read_of}
 use Rattle.records.specs.declared.Fault.{Fault}

@@ -1,5 +1,6 @@
 // A recording as it is read: a bounded buffer over a reader, and the record at a place of it.
 #![tactic(auto)]
+
 ghost use Rattle.std.specs.Prelude.{◌≡◌, ◌-◌, min, length, take, drop};
 ghost use Rattle.records.specs.Answers.{paper};
 ghost use Rattle.recording.specs.Place.{place_of};

@@ -13,7 +13,7 @@ use Rattle.pipeline.specs.Process.{Outcome, outcome, process_of}
 use Rattle.pipeline.specs.declared.Processed.{Processed}
 use Rattle.rvcsi_run.specs.Frames.{frame_of, first_of, pairs_of}
 use Rattle.rvcsi_run.specs.Course.{moved_to, stopped_by, counted_by}
-use Rattle.rvcsi_run.specs.Step.{Step, stepped, at_hand, zeros, answered, step_with, step_of}
+use Rattle.rvcsi_run.specs.Step.{stepped, at_hand, zeros, answered, step_with, step_of}
 use Rattle.rvcsi_run.specs.declared.Course.{Course}
 
 -- what was read from the first n bytes of the buffer

@@ -1,9 +1,8 @@
 -- What a run carries from record to record. Definitions only.
-use Rattle.std.specs.Prelude.{ℕ, Bool, true, false, not}
+use Rattle.std.specs.Prelude.{ℕ, Bool, false, not}
 use Rattle.rvcsi_core.specs.declared.ids.Ids.{Ids}
 use Rattle.buffer_rules.specs.Paper.{Answer}
 use Rattle.pipeline.specs.declared.EventPipeline.{EventPipeline}
-use Rattle.recording.specs.declared.Cursor.{Cursor}
 use Rattle.listing.specs.Counting.{count_frame}
 use Rattle.rvcsi_run.specs.Frames.{closes}
 use Rattle.rvcsi_run.specs.declared.Course.{Course}

@@ -2,7 +2,6 @@
 use Rattle.std.specs.Prelude.{ℕ, ◌+◌, ◌%◌, ◌^◌, min, Bool, List, length, take, replicate, from_bits, Float}
 use Rattle.std.specs.Float.{binary32}
 use Rattle.records.specs.Answers.{Value, nothing, place, header}
-use Rattle.records.specs.declared.Header.{Header}
 use Rattle.recording.specs.Heard.{Heard, heard_of}
 use Rattle.pipeline.specs.Process.{Outcome, process_of}
 use Rattle.rvcsi_run.specs.Frames.{frame_of, first_of, pairs_of}

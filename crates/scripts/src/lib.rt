@@ -1,5 +1,6 @@
 // The commands of a script, as they stand in 65,536 bytes of input: numbers, lengths, settings and frames.
 #![tactic(auto)]
+
 use buffer_rules::WindowBufferConfig;
 use detectors::motion::MotionConfig;
 use detectors::presence::PresenceConfig;
