@@ -106,6 +106,16 @@ def damaged(r, parts, kind):
     return bytes(data)
 
 
+def recording(seed, i):
+    """The bytes of the recording of run i."""
+    r = random.Random(f'{seed} {i}')
+    if i == 0:
+        return b''
+    if i < 6:
+        return edge(236 + i)
+    return damaged(r, frames(r, r.choice([20, 900, 5000]) if i % 3 else 60000), i % 12)
+
+
 def main():
     words = argparse.ArgumentParser()
     words.add_argument('program', nargs='+')
@@ -116,13 +126,7 @@ def main():
     with tempfile.TemporaryDirectory() as folder:
         path = os.path.join(folder, 'recording')
         for i in range(words.runs):
-            r = random.Random(f'{words.seed} {i}')
-            if i == 0:
-                data = b''
-            elif i < 6:
-                data = edge(236 + i)
-            else:
-                data = damaged(r, frames(r, r.choice([20, 900, 5000]) if i % 3 else 60000), i % 12)
+            data = recording(words.seed, i)
             with open(path, 'wb') as f:
                 f.write(data)
             want = io.StringIO()
