@@ -53,7 +53,12 @@ fn shown(pending: usize, x: u64) -> u64 {
     x
 }
 
-fn put_buffer<W: Write>(to: &mut W, b: WindowBuffer, at: usize, out: &mut [u8; 65536]) -> io::Result<usize> {
+fn put_buffer<W: Write>(
+    to: &mut W,
+    b: WindowBuffer,
+    at: usize,
+    out: &mut [u8; 65536],
+) -> io::Result<usize> {
     let n = b.pending;
     let c = answers::put(to, out, at, b'b')?;
     let d = answers::put_number(to, out, c, b.session_id)?;
@@ -68,7 +73,12 @@ fn put_buffer<W: Write>(to: &mut W, b: WindowBuffer, at: usize, out: &mut [u8; 6
     answers::put(to, out, l, b'\n')
 }
 
-fn put_detector<W: Write>(to: &mut W, d: Detector, at: usize, out: &mut [u8; 65536]) -> io::Result<usize> {
+fn put_detector<W: Write>(
+    to: &mut W,
+    d: Detector,
+    at: usize,
+    out: &mut [u8; 65536],
+) -> io::Result<usize> {
     let a = answers::put(to, out, at, b'd')?;
     let b = answers::put_number(to, out, a, slots::kind_number(d) as u64)?;
     let c = answers::put_word(to, out, b, forging::words::config_word(d, 0))?;
@@ -81,7 +91,12 @@ fn put_detector<W: Write>(to: &mut W, d: Detector, at: usize, out: &mut [u8; 655
     answers::put(to, out, j, b'\n')
 }
 
-fn put_detectors<W: Write>(to: &mut W, set: Detectors, at: usize, out: &mut [u8; 65536]) -> io::Result<usize> {
+fn put_detectors<W: Write>(
+    to: &mut W,
+    set: Detectors,
+    at: usize,
+    out: &mut [u8; 65536],
+) -> io::Result<usize> {
     let n = lists::shorter(set.count, 4);
     let slots = set.slots;
     let mut end = at;
@@ -94,11 +109,23 @@ fn put_detectors<W: Write>(to: &mut W, set: Detectors, at: usize, out: &mut [u8;
 }
 
 // A line of the first n of 16 values.
-fn put_values<W: Write>(to: &mut W, values: [f32; 16], at: usize, letter: u8, n: usize, out: &mut [u8; 65536]) -> io::Result<usize> {
+fn put_values<W: Write>(
+    to: &mut W,
+    values: [f32; 16],
+    at: usize,
+    letter: u8,
+    n: usize,
+    out: &mut [u8; 65536],
+) -> io::Result<usize> {
     answers::put_first(to, out, at, letter, n, &values)
 }
 
-pub fn put_state<W: Write>(to: &mut W, p: EventPipeline, at: usize, out: &mut [u8; 65536]) -> io::Result<usize> {
+pub fn put_state<W: Write>(
+    to: &mut W,
+    p: EventPipeline,
+    at: usize,
+    out: &mut [u8; 65536],
+) -> io::Result<usize> {
     let buffer = p.buffer;
     let set = p.detectors;
     let n = buffer.pending;
@@ -111,7 +138,12 @@ pub fn put_state<W: Write>(to: &mut W, p: EventPipeline, at: usize, out: &mut [u
 }
 
 // A line for each recent window, newest last.
-pub fn put_recent<W: Write>(to: &mut W, recent: Recent, at: usize, out: &mut [u8; 65536]) -> io::Result<usize> {
+pub fn put_recent<W: Write>(
+    to: &mut W,
+    recent: Recent,
+    at: usize,
+    out: &mut [u8; 65536],
+) -> io::Result<usize> {
     let n = lists::shorter(recent.count, 32);
     let windows = recent.windows;
     let mut end = at;
