@@ -1,5 +1,6 @@
 // Forging: one field of the counters, the buffer, the detectors or a store is overwritten.
 #![tactic(auto)]
+
 use buffer_rules::WindowBuffer;
 use detectors::motion::{MotionConfig, MotionState};
 use detectors::presence::{PresenceConfig, PresenceState};

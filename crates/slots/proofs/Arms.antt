@@ -1,8 +1,10 @@
 -- A detector taken apart: what each arm of the code needs, and makes. Assumes nothing.
 use mathlib.Core.Path.{◌≡◌, sym, ap, ◌∙◌}
-use mathlib.Core.List.{List}
+use mathlib.Core.List.{List, [], ◌∷◌}
 use Prim.Native.Nat.{ℕ}
 use lib.ListN.{length}
+use types.Run.{OneOf, miss}
+use denote.Enum.Declared.{tag_of}
 use lib.Ieee.{Float}
 use Rattle.rvcsi_core.specs.declared.window.CsiWindow.{CsiWindow}
 use Rattle.detectors.specs.declared.presence.PresenceConfig.{PresenceConfig}
@@ -16,6 +18,7 @@ use Rattle.detectors.specs.declared.quality.QualityState.{QualityState}
 use Rattle.detectors.specs.declared.quality.QualityMoved.{QualityMoved}
 use Rattle.drift.specs.declared.BaselineDriftConfig.{BaselineDriftConfig}
 use Rattle.drift.specs.declared.DriftState.{DriftState}
+use Rattle.drift.specs.contracts.DriftReply as Declared
 use Rattle.drift.specs.declared.DriftReply.{DriftReply}
 use Rattle.drift.specs.declared.DriftReply.TheVariants.{Judged}
 use Rattle.detectors.specs.declared.Judgement.{Judgement}
@@ -44,8 +47,12 @@ module _ (c : BaselineDriftConfig) (s : DriftState) (means l l' : List Float) (r
       let d : second ≡ (drift_move c s means l).moved.second = cc in
       rw (a, b, d, answered.1)
 
-  pub never-refused : ((t : DriftState) (first second : Judgement) → r ≡ Judged t first second → ⊥) → ⊥
-  never-refused k = let m = (drift_move c s means l).moved in k m.state m.first m.second answered.0
+  pub never-refused : OneOf (1 ∷ 2 ∷ 3 ∷ []) (tag_of Declared.the_type r) → ⊥
+  never-refused k = miss (1 ∷ 2 ∷ 3 ∷ []) 0 tt (rw answered.0 at k)
+
+  -- the same of an arm that is told that no judgement came
+  pub never-other : ((t : DriftState) (first second : Judgement) → r ≡ Judged t first second → ⊥) → ⊥
+  never-other k = let m = (drift_move c s means l).moved in k m.state m.first m.second answered.0
 
 module _ (d : Detector) (w : CsiWindow) (means l : List Float) where
   pub by-presence : (c : PresenceConfig) (s : PresenceState) (m : PresenceMoved) → d ≡ Presence c s → m ≡ presence_move c s w.presence_score → by_presence c m l ≡ step_of w means d l
