@@ -13,6 +13,7 @@ import sys
 
 ENTRIES = 2049
 ONE = 1 << 256
+WIDTH = 99  # of a line of code, as `rt fmt` lays it out
 
 
 def exp_bounds(j):
@@ -55,14 +56,19 @@ def entries():
 def code(table):
     lines = ["// The logistic table: entry k is 2^24/(1 + e^-(k/64 - 16)) to nearest. Written by tools/logistic_table.py.",
              f"pub const TABLE: [u32; {ENTRIES}] = ["]
-    lines += [f"    {x}," for x in table]
-    lines += ["];"]
+    row = "   "
+    for word in (f" {x}," for x in table):
+        if len(row + word) > WIDTH:
+            lines.append(row)
+            row = "   "
+        row += word
+    lines += [row, "];"]
     return "\n".join(lines) + "\n"
 
 
 def definition(table):
     lines = ["-- \"The table has 2,049 whole numbers: entry k is 2^24/(1 + e^-(k/64 - 16)) to nearest.\" Written by tools/logistic_table.py. Definitions only.",
-             "use mathlib.Core.List.{List, [], _∷_}", "use Prim.Native.Nat.{ℕ}", "", "unfoldable pub table : List ℕ", "table ="]
+             "use Rattle.std.specs.Prelude.{ℕ, List, [], ◌∷◌}", "", "unfoldable pub table : List ℕ", "table ="]
     for i in range(0, ENTRIES, 16):
         row = "".join(f"{x} ∷ " for x in table[i:i + 16]).rstrip()
         lines.append("    " + row + (" []" if i + 16 >= ENTRIES else ""))
