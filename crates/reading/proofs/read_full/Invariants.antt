@@ -1,3 +1,4 @@
+-- `read_full`: what was read so far stands at the front of the buffer.
 use Rattle.std.proofs.Common.{length, ◌-◌, ◌≡◌, ◌≤◌, take}
 use Rattle.std.specs.Io.KnownBytes.{Consumes}
 use Rattle.reading.proofs.read_full.Given as goal
