@@ -1,213 +1,120 @@
-// The lines of an answer. They go into 65,536 bytes that the caller lends, from place `at`; each function returns the place after what it
-// put there. When the bytes are full they are written out.
+// The lines of an answer. They gather in 65,536 bytes, which are written out when there is no room for the next one.
 #![tactic(auto)]
 
-ghost use Rattle.std.specs.Prelude.{◌≡◌, ◌≤◌, length, take};
+ghost use Rattle.std.specs.Prelude.{◌≤◌};
 
-use rvcsi_core::event::{CsiEvent, CsiEventKind};
+use rvcsi_core::event::CsiEvent;
 use rvcsi_core::window::CsiWindow;
 use slots::Batch;
-use std::io;
-use std::io::{Cursor, Write};
+use std::io::Write;
+use std::{fmt, io};
 
-fn write_part<W: Write>(to: &mut W, out: &[u8], at: usize) -> io::Result<()> {
-    let n = lists::shorter(at, out.len());
-    to.write_all(&out[..n])
+const ROOM: usize = 65536;
+
+// A writer, and what was answered but is not yet written: the first `end` bytes.
+#[derive(Drop)]
+pub struct Answers<W> {
+    to: W,
+    bytes: [u8; ROOM],
+    end: usize,
+    ghost within: { end ≤ 65536 },
 }
 
-// Writes the first `at` bytes out.
-pub fn write_out<W: Write>(to: &mut W, out: &[u8; 65536], at: usize) -> io::Result<()> {
-    write_part(to, out, at)
-}
-
-pub fn put<W: Write>(to: &mut W, out: &mut [u8; 65536], at: usize, b: u8) -> io::Result<usize> {
-    if at < 65536 {
-        out[at] = b;
-        return Ok(at + 1);
-    }
-    write_out(to, out, at)?;
-    out[0] = b;
-    Ok(1)
-}
-
-pub fn put_text<W: Write>(
-    to: &mut W,
-    out: &mut [u8; 65536],
-    at: usize,
-    text: &[u8],
-) -> io::Result<usize> {
-    let mut end = at;
-    for i in 0..text.len() {
-        end = put(to, out, end, text[i])?;
-    }
-    Ok(end)
-}
-
-// A space, and n in decimal.
-pub fn put_number<W: Write>(
-    to: &mut W,
-    out: &mut [u8; 65536],
-    at: usize,
-    n: u64,
-) -> io::Result<usize> {
-    let mut text = Cursor::new([0u8; 21]);
-    write!(text, " {n}")?;
-    let length = (text.position() as usize).min(21);
-    let bytes = text.into_inner();
-    put_text(to, out, at, &bytes[..length])
-}
-
-fn glyph(d: u32) -> u8 {
-    if d < 10 {
-        return 48 + d as u8;
-    }
-    if d < 16 {
-        return 87 + d as u8;
-    }
-    b'?'
-}
-
-// A space, and w as 8 hexadecimal digits.
-pub fn put_word<W: Write>(
-    to: &mut W,
-    out: &mut [u8; 65536],
-    at: usize,
-    w: u32,
-) -> io::Result<usize> {
-    let mut end = put(to, out, at, b' ')?;
-    let mut rest = w;
-    for i in 0usize..8 {
-        end = put(to, out, end, glyph(rest / 0x1000_0000))?;
-        rest = rest % 0x1000_0000 * 16;
-    }
-    Ok(end)
-}
-
-pub fn put_float<W: Write>(
-    to: &mut W,
-    out: &mut [u8; 65536],
-    at: usize,
-    x: f32,
-) -> io::Result<usize> {
-    put_word(to, out, at, floats::to_bits(x))
-}
-
-pub fn put_floats<W: Write>(
-    to: &mut W,
-    out: &mut [u8; 65536],
-    at: usize,
-    list: &[f32],
-) -> io::Result<usize> {
-    let mut end = at;
-    for i in 0..list.len() {
-        end = put_float(to, out, end, list[i])?;
-    }
-    Ok(end)
-}
-
-// A line of floats behind a letter.
-pub fn put_list<W: Write>(
-    to: &mut W,
-    out: &mut [u8; 65536],
-    at: usize,
-    letter: u8,
-    list: &[f32],
-) -> io::Result<usize> {
-    let a = put(to, out, at, letter)?;
-    let b = put_floats(to, out, a, list)?;
-    put(to, out, b, b'\n')
-}
-
-// n, or the length of the list if that is less.
-pub fn fitting(n: usize, list: &[f32]) -> usize
-    ensures { (result ≤ length list.now) × (result ≡ length (take result list.now)) }
-{
-    lists::shorter(n, list.len())
-}
-
-// The same of the first n floats.
-pub fn put_first<W: Write>(
-    to: &mut W,
-    out: &mut [u8; 65536],
-    at: usize,
-    letter: u8,
-    n: usize,
-    list: &[f32],
-) -> io::Result<usize> {
-    let k = fitting(n, list);
-    put_list(to, out, at, letter, &list[..k])
-}
-
-// ---- windows and events
-
-fn long(x: u32) -> u64 {
-    x as u64
-}
-
-// The letter and the fields of a window, with no line end.
-pub fn put_window<W: Write>(
-    to: &mut W,
-    out: &mut [u8; 65536],
-    at: usize,
-    letter: u8,
-    w: CsiWindow,
-) -> io::Result<usize> {
-    let a = put(to, out, at, letter)?;
-    let b = put_number(to, out, a, w.window_id)?;
-    let c = put_number(to, out, b, w.session_id)?;
-    let d = put_number(to, out, c, w.source_id)?;
-    let e = put_number(to, out, d, w.start_ns)?;
-    let f = put_number(to, out, e, w.end_ns)?;
-    let g = put_number(to, out, f, long(w.frame_count))?;
-    let h = put_float(to, out, g, w.motion_energy)?;
-    let i = put_float(to, out, h, w.presence_score)?;
-    put_float(to, out, i, w.quality_score)
-}
-
-fn kind_number(kind: CsiEventKind) -> u64 {
-    match kind {
-        CsiEventKind::PresenceStarted => 0,
-        CsiEventKind::PresenceEnded => 1,
-        CsiEventKind::MotionDetected => 2,
-        CsiEventKind::MotionSettled => 3,
-        CsiEventKind::BaselineChanged => 4,
-        CsiEventKind::SignalQualityDropped => 5,
-        CsiEventKind::AnomalyDetected => 6,
-        CsiEventKind::CalibrationRequired => 7,
+impl<W: Write> Answers<W> {
+    pub fn new(to: W) -> Self {
+        Answers {
+            to,
+            bytes: [0; ROOM],
+            end: 0,
+        }
     }
 }
 
-fn put_event<W: Write>(
-    to: &mut W,
-    out: &mut [u8; 65536],
-    at: usize,
-    event: CsiEvent,
-) -> io::Result<usize> {
-    let kind = event.kind;
-    let a = put(to, out, at, b'e')?;
-    let b = put_number(to, out, a, event.event_id)?;
-    let c = put_number(to, out, b, kind_number(kind))?;
-    let d = put_number(to, out, c, event.session_id)?;
-    let e = put_number(to, out, d, event.source_id)?;
-    let f = put_number(to, out, e, event.timestamp_ns)?;
-    let g = put_float(to, out, f, event.confidence)?;
-    let h = put_number(to, out, g, event.window_id)?;
-    put(to, out, h, b'\n')
+impl<W: Write> Write for Answers<W> {
+    fn write(&mut self, buf: &[u8]) -> io::Result<usize> {
+        if self.end == ROOM && !buf.is_empty() {
+            self.to.write_all(&self.bytes)?;
+            self.end = 0;
+        }
+        let n = buf.len().min(ROOM - self.end);
+        self.bytes[self.end..self.end + n].copy_from_slice(&buf[..n]);
+        self.end += n;
+        Ok(n)
+    }
+
+    fn flush(&mut self) -> io::Result<()> {
+        self.to.write_all(&self.bytes[..self.end])?;
+        self.end = 0;
+        self.to.flush()
+    }
 }
 
-// A line for each event of the batch, in order.
-pub fn put_events<W: Write>(
-    to: &mut W,
-    out: &mut [u8; 65536],
-    at: usize,
-    batch: Batch,
-) -> io::Result<usize> {
-    let n = lists::shorter(batch.count, 6);
-    let events = batch.events;
-    let mut end = at;
-    for i in 0..n {
-        let e = events[i];
-        end = put_event(to, out, end, e)?;
+// A float by its bits.
+#[derive(Clone, Copy)]
+pub struct Float(pub f32);
+
+impl fmt::Display for Float {
+    fn fmt<W: fmt::Write>(&self, f: &mut fmt::Formatter<W>) -> fmt::Result {
+        let bits = floats::to_bits(self.0);
+        write!(f, "{bits:08x}")
     }
-    Ok(end)
+}
+
+// A list of floats, each behind a space.
+#[derive(Clone, Copy)]
+pub struct Floats<'a>(pub &'a [f32]);
+
+impl fmt::Display for Floats<'_> {
+    fn fmt<W: fmt::Write>(&self, f: &mut fmt::Formatter<W>) -> fmt::Result {
+        for x in self.0 {
+            write!(f, " {}", Float(*x))?;
+        }
+        Ok(())
+    }
+}
+
+// The fields of a window.
+#[derive(Clone, Copy)]
+pub struct Window(pub CsiWindow);
+
+impl fmt::Display for Window {
+    fn fmt<W: fmt::Write>(&self, f: &mut fmt::Formatter<W>) -> fmt::Result {
+        let w = self.0;
+        write!(f, "{} {} {} ", w.window_id, w.session_id, w.source_id)?;
+        write!(f, "{} {} {} ", w.start_ns, w.end_ns, w.frame_count)?;
+        let [motion, presence, quality] = [
+            Float(w.motion_energy),
+            Float(w.presence_score),
+            Float(w.quality_score),
+        ];
+        write!(f, "{motion} {presence} {quality}")
+    }
+}
+
+// The fields of an event.
+#[derive(Clone, Copy)]
+struct Event(CsiEvent);
+
+impl fmt::Display for Event {
+    fn fmt<W: fmt::Write>(&self, f: &mut fmt::Formatter<W>) -> fmt::Result {
+        let e = self.0;
+        let kind = e.kind as u64;
+        let confidence = Float(e.confidence);
+        write!(f, "{} {kind} {} {} ", e.event_id, e.session_id, e.source_id)?;
+        write!(f, "{} {confidence} {}", e.timestamp_ns, e.window_id)
+    }
+}
+
+// A line for each event of a batch, in order.
+#[derive(Clone, Copy)]
+pub struct Events(pub Batch);
+
+impl fmt::Display for Events {
+    fn fmt<W: fmt::Write>(&self, f: &mut fmt::Formatter<W>) -> fmt::Result {
+        let batch = self.0;
+        for event in batch.events.iter().take(batch.count) {
+            writeln!(f, "e {}", Event(*event))?;
+        }
+        Ok(())
+    }
 }

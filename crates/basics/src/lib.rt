@@ -1,4 +1,4 @@
-// What every crate names: the limits of 01 here, replies on paper in specs/, the laws of tests in proofs/. It has no function.
+// A vocabulary: the limits of the scope document here, replies on paper in specs/, the laws of tests in proofs/. No crate stands on it; it has no function.
 #![tactic(auto)]
 
 // The most values of a list, and the places of a row of a store: 0 to 256 subcarriers.

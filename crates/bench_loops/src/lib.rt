@@ -1,136 +1,49 @@
-// Loops over the calls that bench/ measures, for its driver to link. Each answers every input; what it returns lets the driver compare its work with the Rust's.
+// Loops over the calls that bench/ measures, for its driver to link. Each answers every input.
+// By what a loop returns the driver compares its work with that of ruvnet/rvcsi, the Rust that was carried over.
 // `process_frame` is called in one place, as in a program: the compiler then sees the whole path of a frame at once.
 #![tactic(auto)]
 
-ghost use Rattle.std.specs.Prelude.{◌≡◌, ◌≤◌, length, take};
-
-use pipeline::{EventPipeline, Processed};
-use records::{Header, ReadRecord, Wrote};
-use rvcsi_core::frame::CsiFrame;
+use records::{BitLists, Header, ReadLists};
+use rvcsi_core::frame::{CsiFrame, Lists};
 use rvcsi_core::ids::Ids;
+use window_buffer::{Results, Stores};
 
 // ---- float helpers
 
+// C calls each loop by its name and its types, so the three stay apart.
 #[unsafe(no_mangle)]
 pub extern "C" fn bench_root(values: &[f64], out: &mut [f64]) {
-    let n = lists::shorter(values.len(), out.len());
-    for k in 0..n {
-        out[k] = floats::root(values[k]);
+    for (root, x) in out.iter_mut().zip(values) {
+        *root = floats::root(*x);
     }
 }
 
 #[unsafe(no_mangle)]
 pub extern "C" fn bench_narrow(values: &[f64], out: &mut [f32]) {
-    let n = lists::shorter(values.len(), out.len());
-    for k in 0..n {
-        out[k] = floats::narrow(values[k]);
+    for (narrow, x) in out.iter_mut().zip(values) {
+        *narrow = floats::narrow(*x);
     }
 }
 
 #[unsafe(no_mangle)]
 pub extern "C" fn bench_score(values: &[f32], threshold: f32, out: &mut [f32]) {
-    let n = lists::shorter(values.len(), out.len());
-    for k in 0..n {
-        out[k] = logistic::presence_score(values[k], threshold);
+    for (score, motion) in out.iter_mut().zip(values) {
+        *score = logistic::presence_score(*motion, threshold);
     }
 }
 
 // ---- frames
 
-// n, or the length of the list if that is less.
-fn fitting(n: usize, list: &[f32]) -> usize
-    ensures { (result ≤ length list.now) × (result ≡ length (take result list.now)) }
-{
-    lists::shorter(n, list.len())
-}
-
-// The counters and the pipeline between two frames.
+// What each frame has, and after how many they begin again.
 #[derive(Clone, Copy)]
-struct Course {
-    ids: Ids,
-    pipeline: EventPipeline,
+struct Shape {
+    subcarriers: usize,
+    pair_count: usize,
+    ring: usize,
 }
 
-fn begin() -> Course {
-    let ids = rvcsi_core::ids::fresh();
-    let pipeline = pipeline::with_defaults(1, 1);
-    Course { ids, pipeline }
-}
-
-fn after(done: Processed) -> Course {
-    let ids = done.ids;
-    let pipeline = done.pipeline;
-    Course { ids, pipeline }
-}
-
-// A frame whose lists are the first numbers of those lent.
-fn cut<'a>(
-    c: Course,
-    frame: CsiFrame,
-    amplitude: &'a [f32],
-    phase: &'a [f32],
-    pairs: &'a [f32],
-    amplitude_store: &mut [f32],
-    phase_store: &mut [f32],
-    baseline_store: &mut [f32],
-    mean_amplitude: &mut [f32],
-    phase_variance: &mut [f32],
-) -> Course {
-    let ids = c.ids;
-    let p = c.pipeline;
-    let m = frame.pair_count;
-    let x = fitting(frame.subcarrier_count, amplitude);
-    let y = fitting(frame.subcarrier_count, phase);
-    let z = fitting(std::num::wrapping_add_usize(m, m), pairs);
-    after(pipeline::process_frame(
-        ids,
-        p,
-        frame,
-        &amplitude[..x],
-        &phase[..y],
-        &pairs[..z],
-        amplitude_store,
-        phase_store,
-        baseline_store,
-        mean_amplitude,
-        phase_variance,
-    ))
-}
-
-// The same from a place of each list on.
-fn from<'a>(
-    c: Course,
-    frame: CsiFrame,
-    at: usize,
-    pairs_at: usize,
-    amplitude: &'a [f32],
-    phase: &'a [f32],
-    pairs: &'a [f32],
-    amplitude_store: &mut [f32],
-    phase_store: &mut [f32],
-    baseline_store: &mut [f32],
-    mean_amplitude: &mut [f32],
-    phase_variance: &mut [f32],
-) -> Course {
-    let x = fitting(at, amplitude);
-    let y = fitting(at, phase);
-    let z = fitting(pairs_at, pairs);
-    cut(
-        c,
-        frame,
-        &amplitude[x..],
-        &phase[y..],
-        &pairs[z..],
-        amplitude_store,
-        phase_store,
-        baseline_store,
-        mean_amplitude,
-        phase_variance,
-    )
-}
-
-// Where the next frame stands, in all and in each list.
-#[derive(Clone, Copy)]
+// Where the next frame stands, in all and in each list, and when it comes.
+#[derive(Clone, Copy, Default)]
 struct Place {
     frame: usize,
     at: usize,
@@ -138,96 +51,92 @@ struct Place {
     time: u64,
 }
 
-fn first_place() -> Place {
-    Place {
-        frame: 0,
-        at: 0,
-        pairs_at: 0,
-        time: 0,
-    }
-}
-
-// The frame behind, or the first again after `ring` of them; a millisecond later.
-fn next_place(p: Place, subcarriers: usize, pair_count: usize, ring: usize) -> Place {
-    let frame = std::num::wrapping_add_usize(p.frame, 1);
-    let time = std::num::wrapping_add_u64(p.time, 1_000_000);
-    if ring <= frame {
-        return Place {
-            frame: 0,
-            at: 0,
-            pairs_at: 0,
+impl Place {
+    // The frame behind, or the first again after `ring` of them; a millisecond later.
+    fn next(self, shape: Shape) -> Place {
+        let frame = self.frame.wrapping_add(1);
+        let time = self.time.wrapping_add(1_000_000);
+        if shape.ring <= frame {
+            return Place {
+                time,
+                ..Place::default()
+            };
+        }
+        Place {
+            frame,
+            at: self.at.wrapping_add(shape.subcarriers),
+            pairs_at: self.pairs_at.wrapping_add(shape.pair_count.wrapping_mul(2)),
             time,
-        };
-    }
-    let half = std::num::wrapping_add_usize(p.pairs_at, pair_count);
-    Place {
-        frame,
-        at: std::num::wrapping_add_usize(p.at, subcarriers),
-        pairs_at: std::num::wrapping_add_usize(half, pair_count),
-        time,
+        }
     }
 }
 
-fn frame_at(time: u64, subcarriers: usize, pair_count: usize) -> CsiFrame {
+// n floats of a list from a place on, or as many as there are.
+fn part(list: &[f32], at: usize, n: usize) -> &[f32] {
+    lists::front(&list[at.min(list.len())..], n)
+}
+
+fn frame_at(time: u64, shape: Shape) -> CsiFrame {
     CsiFrame {
         session_id: 1,
         source_id: 1,
         timestamp_ns: time,
         exposable: 1,
-        subcarrier_count: subcarriers,
-        pair_count,
+        subcarrier_count: shape.subcarriers,
+        pair_count: shape.pair_count,
         quality_score: 0.75,
     }
 }
 
 // A fresh pipeline is given `count` frames, the `ring` frames of the lists round and round.
-fn run<'a>(
+// The lent lists stay three parameters: the borrow checker does not cover a struct that holds `Stores` and `Results`.
+fn run(
     count: u64,
-    subcarriers: usize,
-    pair_count: usize,
-    ring: usize,
-    amplitude: &'a [f32],
-    phase: &'a [f32],
-    pairs: &'a [f32],
-    amplitude_store: &mut [f32; 4096],
-    phase_store: &mut [f32; 4096],
-    baseline_store: &mut [f32; 256],
-    mean_amplitude: &mut [f32; 256],
-    phase_variance: &mut [f32; 256],
+    shape: Shape,
+    lists: &Lists<'_>,
+    stores: &mut Stores<'_>,
+    baseline: &mut [f32],
+    results: &mut Results<'_>,
 ) -> Ids {
-    let mut c = begin();
-    let mut p = first_place();
-    for i in 0..count {
-        let frame = frame_at(p.time, subcarriers, pair_count);
-        c = from(
-            c,
-            frame,
-            p.at,
-            p.pairs_at,
-            amplitude,
-            phase,
-            pairs,
-            amplitude_store,
-            phase_store,
-            baseline_store,
-            mean_amplitude,
-            phase_variance,
+    let mut ids = rvcsi_core::ids::fresh();
+    let mut pipeline = pipeline::with_defaults(1, 1);
+    let mut place = Place::default();
+    for _ in 0..count {
+        let frame = Lists {
+            amplitudes: part(lists.amplitudes, place.at, shape.subcarriers),
+            phases: part(lists.phases, place.at, shape.subcarriers),
+            pairs: part(
+                lists.pairs,
+                place.pairs_at,
+                shape.pair_count.wrapping_mul(2),
+            ),
+        };
+        let done = pipeline::process_frame(
+            ids,
+            pipeline,
+            frame_at(place.time, shape),
+            &frame,
+            stores,
+            baseline,
+            results,
         );
-        p = next_place(p, subcarriers, pair_count, ring);
+        ids = done.ids;
+        pipeline = done.pipeline;
+        place = place.next(shape);
     }
-    c.ids
+    ids
 }
 
-// A run; its windows go into `tally[0]`, its events into `tally[1]`.
+// A run; its windows go into `tally[0]`, its events into `tally[1]`. The driver of `bench/` calls it by these parameters.
 #[unsafe(no_mangle)]
-pub extern "C" fn bench_frames<'a>(
+pub extern "C" fn bench_frames(
     count: u64,
     subcarriers: usize,
     pair_count: usize,
     ring: usize,
-    amplitude: &'a [f32],
-    phase: &'a [f32],
-    pairs: &'a [f32],
+    amplitude: &[f32],
+    phase: &[f32],
+    pairs: &[f32],
     amplitude_store: &mut [f32; 4096],
     phase_store: &mut [f32; 4096],
     baseline_store: &mut [f32; 256],
@@ -235,45 +144,47 @@ pub extern "C" fn bench_frames<'a>(
     phase_variance: &mut [f32; 256],
     tally: &mut [u64; 2],
 ) {
-    let ids = run(
-        count,
+    let shape = Shape {
         subcarriers,
         pair_count,
         ring,
-        amplitude,
-        phase,
+    };
+    let lists = Lists {
+        amplitudes: amplitude,
+        phases: phase,
         pairs,
-        amplitude_store,
-        phase_store,
-        baseline_store,
+    };
+    let mut stores = Stores {
+        amplitudes: amplitude_store,
+        phases: phase_store,
+    };
+    let mut results = Results {
         mean_amplitude,
         phase_variance,
+    };
+    let ids = run(
+        count,
+        shape,
+        &lists,
+        &mut stores,
+        baseline_store,
+        &mut results,
     );
-    tally[0] = ids.window;
-    tally[1] = ids.event;
+    *tally = [ids.window, ids.event];
 }
 
 // ---- records
 
-// Reads every record of the input. The records go into `tally[0]`, their subcarriers into `tally[1]`.
-fn read_all(
-    input: &[u8],
-    amplitudes: &mut [u32; 256],
-    phases: &mut [u32; 256],
-    pairs: &mut [u32; 512],
-    tally: &mut [u64; 2],
-) {
-    let mut at = 0usize;
-    let mut left = input.len();
-    while left > 0 {
-        let r = records::read_record(input, at, amplitudes, phases, pairs);
-        let ReadRecord::Record { header, next } = r else {
+// Reads every record of the input. The records are counted in `tally[0]`, their subcarriers in `tally[1]`.
+fn read_all(input: &[u8], lists: &mut ReadLists<'_>, tally: &mut [u64; 2]) {
+    let mut at = 0;
+    for _ in 0..input.len() {
+        let Ok(Some(record)) = records::read_record(input, at, lists) else {
             return;
         };
-        tally[0] = std::num::wrapping_add_u64(tally[0], 1);
-        tally[1] = std::num::wrapping_add_u64(tally[1], header.subcarriers);
-        at = next;
-        left -= 1;
+        tally[0] = tally[0].wrapping_add(1);
+        tally[1] = tally[1].wrapping_add(record.header.subcarriers);
+        at = record.next;
     }
 }
 
@@ -287,8 +198,13 @@ pub extern "C" fn bench_read(
     pairs: &mut [u32; 512],
     tally: &mut [u64; 2],
 ) {
-    for i in 0..rounds {
-        read_all(input, amplitudes, phases, pairs, tally);
+    let mut lists = ReadLists {
+        amplitudes,
+        phases,
+        pairs,
+    };
+    for _ in 0..rounds {
+        read_all(input, &mut lists, tally);
     }
 }
 
@@ -313,17 +229,22 @@ pub extern "C" fn bench_write(
     phases: &[u32],
     pairs: &[u32],
 ) -> usize {
-    let mut at = 0usize;
+    let lists = BitLists {
+        amplitudes,
+        phases,
+        pairs,
+    };
+    let subcarriers = amplitudes.len() as u64;
+    let pair_count = pairs.len() as u64 / 2;
+    let mut at = 0;
     let mut time = 0u64;
-    for i in 0..count {
-        let n = amplitudes.len() as u64;
-        let m = pairs.len() as u64 / 2;
-        let w = records::write_record(out, at, header_at(time, n, m), amplitudes, phases, pairs);
-        let Wrote::Written(next) = w else {
+    for _ in 0..count {
+        let header = header_at(time, subcarriers, pair_count);
+        let Ok(next) = records::write_record(out, at, header, &lists) else {
             return at;
         };
         at = next;
-        time = std::num::wrapping_add_u64(time, 1_000_000);
+        time = time.wrapping_add(1_000_000);
     }
     at
 }

@@ -15,8 +15,8 @@ use Rattle.detectors.specs.Hysteresis.{for}
 use Rattle.detectors.specs.Presence.{presence_accepted}
 use Rattle.detectors.specs.Motion.{motion_accepted}
 use Rattle.detectors.specs.Quality.{quality_accepted}
-use Rattle.lists.proofs.Tests.{and2}
-use Rattle.rvcsi_core.proofs.Tested.{holds}
+use Rattle.std.proofs.lemmas.Bool.{and_parts}
+use Rattle.std.proofs.lemmas.Float.{T_from_true}
 
 -- the settings of a switch: two thresholds and two counts
 pub record Settings (on off : Float) (enter exit : ℕ) : Type 0 where
@@ -35,27 +35,27 @@ module _ (on off : Float) (enter exit : ℕ) where
   settings : limits_ok on off ≡ true → 0 < enter → 0 < exit → Settings on off enter exit
   unfolding limits_ok threshold_ok
   settings h e x =
-      let a = and2 (threshold_ok on) (threshold_ok off && lt off on) h in
-      let b = and2 (threshold_ok off) (lt off on) a.1 in
-      let u = and2 (le zero32 on) (le on million) a.0 in
-      let v = and2 (le zero32 off) (le off million) b.0 in
-      record { off-least = holds v.0; off-most = holds v.1; on-least = holds u.0; on-most = holds u.1; apart = holds b.1; some = counts e x }
+      let a = and_parts (threshold_ok on) (threshold_ok off && lt off on) h in
+      let b = and_parts (threshold_ok off) (lt off on) a.1 in
+      let u = and_parts (le zero32 on) (le on million) a.0 in
+      let v = and_parts (le zero32 off) (le off million) b.0 in
+      record { off-least = T_from_true _ v.0; off-most = T_from_true _ v.1; on-least = T_from_true _ u.0; on-most = T_from_true _ u.1; apart = T_from_true _ b.1; some = counts e x }
 
 -- two counts, each at least 1
 both_some : (a b : ℕ) → counts_ok a b ≡ true → (0 < a) × (0 < b)
-both_some a b h = let p = and2 (leb 1 a) (leb 1 b) h in (leb-true _ _ p.0, leb-true _ _ p.1)
+both_some a b h = let p = and_parts (leb 1 a) (leb 1 b) h in (leb-true _ _ p.0, leb-true _ _ p.1)
 
 pub presence_settings : (c : PresenceConfig) → presence_accepted c ≡ true → Settings c.on_threshold c.off_threshold c.enter_windows c.exit_windows
 unfolding presence_accepted
 presence_settings c h =
-    let a = and2 (limits_ok c.on_threshold c.off_threshold) (counts_ok c.enter_windows c.exit_windows) h in
+    let a = and_parts (limits_ok c.on_threshold c.off_threshold) (counts_ok c.enter_windows c.exit_windows) h in
     let n = both_some c.enter_windows c.exit_windows a.1 in
     settings _ _ _ _ a.0 n.0 n.1
 
 pub motion_settings : (c : MotionConfig) → motion_accepted c ≡ true → Settings c.on_threshold c.off_threshold c.debounce_windows c.debounce_windows
 unfolding motion_accepted
 motion_settings c h =
-    let a = and2 (limits_ok c.on_threshold c.off_threshold) (leb 1 c.debounce_windows) h in
+    let a = and_parts (limits_ok c.on_threshold c.off_threshold) (leb 1 c.debounce_windows) h in
     let n = leb-true _ _ a.1 in
     settings _ _ _ _ a.0 n n
 
@@ -68,7 +68,7 @@ pub record QualitySettings (c : QualityConfig) : Type 0 where
 pub quality_settings : (c : QualityConfig) → quality_accepted c ≡ true → QualitySettings c
 unfolding quality_accepted threshold_ok
 quality_settings c h =
-    let a = and2 (threshold_ok c.drop_threshold) (counts_ok c.debounce_windows c.calib_windows) h in
+    let a = and_parts (threshold_ok c.drop_threshold) (counts_ok c.debounce_windows c.calib_windows) h in
     let n = both_some c.debounce_windows c.calib_windows a.1 in
-    let t = and2 (le zero32 c.drop_threshold) (le c.drop_threshold million) a.0 in
-    record { drop-least = holds t.0; drop-most = holds t.1; debounce-some = n.0; calib-some = n.1 }
+    let t = and_parts (le zero32 c.drop_threshold) (le c.drop_threshold million) a.0 in
+    record { drop-least = T_from_true _ t.0; drop-most = T_from_true _ t.1; debounce-some = n.0; calib-some = n.1 }

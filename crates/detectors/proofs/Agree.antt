@@ -4,27 +4,19 @@ use mathlib.Core.Path.{◌≡◌, refl, sym, ap, ◌∙◌}
 use Prim.Native.Nat.{ℕ}
 use lib.ListN.{get_or}
 use lib.Ieee.{Float}
+use Rattle.std.specs.Prelude.{Option, Some, None, Ok, Err}
+use Rattle.rvcsi_core.specs.declared.event.CsiEventKind.{CsiEventKind}
+use Rattle.rvcsi_core.specs.declared.event.CsiEventKind.TheVariants.{PresenceStarted, PresenceEnded, MotionDetected, MotionSettled, BaselineChanged, SignalQualityDropped, AnomalyDetected, CalibrationRequired}
 use Rattle.detectors.specs.declared.Judgement.{Judgement}
-use Rattle.detectors.specs.declared.Judgement.TheVariants.{Quiet, PresenceStarted, PresenceEnded, MotionDetected, MotionSettled, BaselineChanged, SignalQualityDropped, AnomalyDetected, CalibrationRequired}
+use Rattle.detectors.specs.declared.Moved.{Moved}
 use Rattle.detectors.specs.declared.presence.PresenceConfig.{PresenceConfig}
 use Rattle.detectors.specs.declared.presence.PresenceState.{PresenceState}
-use Rattle.detectors.specs.declared.presence.PresenceMade.{PresenceMade}
-use Rattle.detectors.specs.declared.presence.PresenceMade.TheVariants as presence-made
-use Rattle.detectors.specs.declared.presence.PresenceReply.{PresenceReply}
-use Rattle.detectors.specs.declared.presence.PresenceReply.TheVariants as presence-reply
 use Rattle.detectors.specs.declared.motion.MotionConfig.{MotionConfig}
 use Rattle.detectors.specs.declared.motion.MotionState.{MotionState}
-use Rattle.detectors.specs.declared.motion.MotionMade.{MotionMade}
-use Rattle.detectors.specs.declared.motion.MotionMade.TheVariants as motion-made
-use Rattle.detectors.specs.declared.motion.MotionReply.{MotionReply}
-use Rattle.detectors.specs.declared.motion.MotionReply.TheVariants as motion-reply
 use Rattle.detectors.specs.declared.quality.QualityConfig.{QualityConfig}
 use Rattle.detectors.specs.declared.quality.QualityState.{QualityState}
-use Rattle.detectors.specs.declared.quality.QualityMade.{QualityMade}
-use Rattle.detectors.specs.declared.quality.QualityMade.TheVariants as quality-made
-use Rattle.detectors.specs.declared.quality.QualityReply.{QualityReply}
-use Rattle.detectors.specs.declared.quality.QualityReply.TheVariants as quality-reply
-use Rattle.detectors.specs.Answers.{Kind, presence-started, presence-ended, motion-detected, motion-settled, baseline-changed, quality-dropped, anomaly, calibration, Said, quiet, event, said, Result, Answer, taken, refusal}
+use Rattle.detectors.specs.Answers.{Kind, presence-started, presence-ended, motion-detected, motion-settled, baseline-changed, quality-dropped, anomaly, calibration, Said, quiet, event, kind_of, said, further, Result, Answer, taken, refusal}
+use Rattle.detectors.specs.Replies.{Made, Reply, on_paper_made, on_paper}
 use Rattle.detectors.specs.Presence as presence
 use Rattle.detectors.specs.Motion as motion
 use Rattle.detectors.specs.Quality as quality
@@ -34,108 +26,102 @@ pub read_agree : {A B : Type 0} (read : A → B) (back : B → A) → ((a : A) �
 read_agree read back undone x r r' e f = sym (undone r) ∙ ap back (e ∙ sym f) ∙ undone r'
 
 -- ---- judgements
-unkind : Kind → Float → Judgement
-unkind presence-started x = PresenceStarted x
-unkind presence-ended x = PresenceEnded x
-unkind motion-detected x = MotionDetected x
-unkind motion-settled x = MotionSettled x
-unkind baseline-changed x = BaselineChanged x
-unkind quality-dropped x = SignalQualityDropped x
-unkind anomaly x = AnomalyDetected x
-unkind calibration x = CalibrationRequired x
+unkind : Kind → CsiEventKind
+unkind presence-started = PresenceStarted
+unkind presence-ended = PresenceEnded
+unkind motion-detected = MotionDetected
+unkind motion-settled = MotionSettled
+unkind baseline-changed = BaselineChanged
+unkind quality-dropped = SignalQualityDropped
+unkind anomaly = AnomalyDetected
+unkind calibration = CalibrationRequired
 
-unfoldable pub unsaid : Said → Judgement
+kind_back : (k : CsiEventKind) → unkind (kind_of k) ≡ k
 unfolding unkind
-unsaid quiet = Quiet
-unsaid (event k x) = unkind k x
+kind_back PresenceStarted = refl
+kind_back PresenceEnded = refl
+kind_back MotionDetected = refl
+kind_back MotionSettled = refl
+kind_back BaselineChanged = refl
+kind_back SignalQualityDropped = refl
+kind_back AnomalyDetected = refl
+kind_back CalibrationRequired = refl
 
-pub unsaid_said : (j : Judgement) → unsaid (said j) ≡ j
+unfoldable pub unsaid : Said → Option Judgement
+unfolding unkind
+unsaid quiet = None
+unsaid (event k x) = Some (record { kind = unkind k; confidence = x })
+
+pub unsaid_said : (j : Option Judgement) → unsaid (said j) ≡ j
 unfolding unsaid
-unsaid_said Quiet = refl
-unsaid_said (PresenceStarted x) = refl
-unsaid_said (PresenceEnded x) = refl
-unsaid_said (MotionDetected x) = refl
-unsaid_said (MotionSettled x) = refl
-unsaid_said (BaselineChanged x) = refl
-unsaid_said (SignalQualityDropped x) = refl
-unsaid_said (AnomalyDetected x) = refl
-unsaid_said (CalibrationRequired x) = refl
+unsaid_said None = refl
+unsaid_said (Some j) = rw (kind_back j.kind)
 
 -- the k-th judgement of a result
-abbrev judgement : {S : Type 0} → ℕ → Result S → Judgement
+abbrev pub judgement : {S : Type 0} → ℕ → Result S → Option Judgement
 judgement k r = unsaid (get_or r.judgements k quiet)
 
+-- ---- a detector of any kind
+unmade : {S : Type 0} → Answer S → Made S
+unmade (taken s) = Ok s
+unmade (refusal n) = Err (record {})
+
+made_back : {S : Type 0} (r : Made S) → unmade (on_paper_made r) ≡ r
+unfolding unmade
+made_back (Ok s) = refl
+made_back (Err e) = refl
+
+pub made_agree : {S : Type 0} (x : Answer S) (r r' : Made S) → on_paper_made r ≡ x → on_paper_made r' ≡ x → r ≡ r'
+made_agree x r r' = read_agree on_paper_made unmade made_back x r r'
+
+abbrev pub moved_by : {S : Type 0} → Result S → Moved S
+moved_by r = record { state = r.state; first = judgement 0 r; second = judgement 1 r }
+
+module _ {S : Type 0} (result : Moved S → Result S) (undone : (m : Moved S) → moved_by (result m) ≡ m) where
+  unread : Answer (Result S) → Reply S
+  unread (taken r) = Ok (moved_by r)
+  unread (refusal n) = Err (record {})
+
+  back : (r : Reply S) → unread (on_paper result r) ≡ r
+  unfolding unread
+  back (Ok m) = ap Ok (undone m)
+  back (Err e) = refl
+
+  pub reply_agree : (x : Answer (Result S)) (r r' : Reply S) → on_paper result r ≡ x → on_paper result r' ≡ x → r ≡ r'
+  reply_agree x r r' = read_agree (on_paper result) unread back x r r'
+
+-- one judgement, and a second only where one is said
+second_back : (j : Option Judgement) → unsaid (get_or (further j) 0 quiet) ≡ j
+unfolding unsaid
+second_back None = refl
+second_back (Some j) = unsaid_said (Some j)
+
 -- ---- presence
-presence_unmade : Answer PresenceState → PresenceMade
-presence_unmade (taken s) = presence-made.Fresh s
-presence_unmade (refusal n) = presence-made.NotAccepted
+presence_undone : (m : Moved PresenceState) → moved_by (presence.result m) ≡ m
+presence_undone m = rw (unsaid_said m.first, second_back m.second)
 
-presence_made_back : (r : PresenceMade) → presence_unmade (presence.paper_made r) ≡ r
-unfolding presence_unmade
-presence_made_back (presence-made.Fresh s) = refl
-presence_made_back presence-made.NotAccepted = refl
+pub presence_made_agree : (c : PresenceConfig) (r r' : Made PresenceState) → presence.paper_made r ≡ presence.presence_new c → presence.paper_made r' ≡ presence.presence_new c → r ≡ r'
+presence_made_agree c r r' = made_agree (presence.presence_new c) r r'
 
-presence_unread : Answer (Result PresenceState) → PresenceReply
-presence_unread (taken r) = presence-reply.Judged r.state (judgement 0 r)
-presence_unread (refusal n) = presence-reply.OutOfRange
-
-presence_back : (r : PresenceReply) → presence_unread (presence.paper r) ≡ r
-unfolding presence_unread
-presence_back (presence-reply.Judged s j) = rw (unsaid_said j)
-presence_back presence-reply.OutOfRange = refl
-
-pub presence_made_agree : (c : PresenceConfig) (r r' : PresenceMade) → presence.paper_made r ≡ presence.presence_new c → presence.paper_made r' ≡ presence.presence_new c → r ≡ r'
-presence_made_agree c r r' = read_agree presence.paper_made presence_unmade presence_made_back (presence.presence_new c) r r'
-
-pub presence_agree : (c : PresenceConfig) (s : PresenceState) (p : Float) (r r' : PresenceReply) → presence.paper r ≡ presence.presence_step c s p → presence.paper r' ≡ presence.presence_step c s p → r ≡ r'
-presence_agree c s p r r' = read_agree presence.paper presence_unread presence_back (presence.presence_step c s p) r r'
+pub presence_agree : (c : PresenceConfig) (s : PresenceState) (p : Float) (r r' : Reply PresenceState) → presence.paper r ≡ presence.presence_step c s p → presence.paper r' ≡ presence.presence_step c s p → r ≡ r'
+presence_agree c s p r r' = reply_agree presence.result presence_undone (presence.presence_step c s p) r r'
 
 -- ---- motion
-motion_unmade : Answer MotionState → MotionMade
-motion_unmade (taken s) = motion-made.Fresh s
-motion_unmade (refusal n) = motion-made.NotAccepted
+motion_undone : (m : Moved MotionState) → moved_by (motion.result m) ≡ m
+motion_undone m = rw (unsaid_said m.first, second_back m.second)
 
-motion_made_back : (r : MotionMade) → motion_unmade (motion.paper_made r) ≡ r
-unfolding motion_unmade
-motion_made_back (motion-made.Fresh s) = refl
-motion_made_back motion-made.NotAccepted = refl
+pub motion_made_agree : (c : MotionConfig) (r r' : Made MotionState) → motion.paper_made r ≡ motion.motion_new c → motion.paper_made r' ≡ motion.motion_new c → r ≡ r'
+motion_made_agree c r r' = made_agree (motion.motion_new c) r r'
 
-motion_unread : Answer (Result MotionState) → MotionReply
-motion_unread (taken r) = motion-reply.Judged r.state (judgement 0 r)
-motion_unread (refusal n) = motion-reply.OutOfRange
-
-motion_back : (r : MotionReply) → motion_unread (motion.paper r) ≡ r
-unfolding motion_unread
-motion_back (motion-reply.Judged s j) = rw (unsaid_said j)
-motion_back motion-reply.OutOfRange = refl
-
-pub motion_made_agree : (c : MotionConfig) (r r' : MotionMade) → motion.paper_made r ≡ motion.motion_new c → motion.paper_made r' ≡ motion.motion_new c → r ≡ r'
-motion_made_agree c r r' = read_agree motion.paper_made motion_unmade motion_made_back (motion.motion_new c) r r'
-
-pub motion_agree : (c : MotionConfig) (s : MotionState) (m : Float) (r r' : MotionReply) → motion.paper r ≡ motion.motion_step c s m → motion.paper r' ≡ motion.motion_step c s m → r ≡ r'
-motion_agree c s m r r' = read_agree motion.paper motion_unread motion_back (motion.motion_step c s m) r r'
+pub motion_agree : (c : MotionConfig) (s : MotionState) (m : Float) (r r' : Reply MotionState) → motion.paper r ≡ motion.motion_step c s m → motion.paper r' ≡ motion.motion_step c s m → r ≡ r'
+motion_agree c s m r r' = reply_agree motion.result motion_undone (motion.motion_step c s m) r r'
 
 -- ---- quality
-quality_unmade : Answer QualityState → QualityMade
-quality_unmade (taken s) = quality-made.Fresh s
-quality_unmade (refusal n) = quality-made.NotAccepted
+quality_undone : (m : Moved QualityState) → moved_by (quality.result m) ≡ m
+quality_undone m = rw (unsaid_said m.first, unsaid_said m.second)
 
-quality_made_back : (r : QualityMade) → quality_unmade (quality.paper_made r) ≡ r
-unfolding quality_unmade
-quality_made_back (quality-made.Fresh s) = refl
-quality_made_back quality-made.NotAccepted = refl
+pub quality_made_agree : (c : QualityConfig) (r r' : Made QualityState) → quality.paper_made r ≡ quality.quality_new c → quality.paper_made r' ≡ quality.quality_new c → r ≡ r'
+quality_made_agree c r r' = made_agree (quality.quality_new c) r r'
 
-quality_unread : Answer (Result QualityState) → QualityReply
-quality_unread (taken r) = quality-reply.Judged r.state (judgement 0 r) (judgement 1 r)
-quality_unread (refusal n) = quality-reply.OutOfRange
-
-quality_back : (r : QualityReply) → quality_unread (quality.paper r) ≡ r
-unfolding quality_unread
-quality_back (quality-reply.Judged s j k) = rw (unsaid_said j, unsaid_said k)
-quality_back quality-reply.OutOfRange = refl
-
-pub quality_made_agree : (c : QualityConfig) (r r' : QualityMade) → quality.paper_made r ≡ quality.quality_new c → quality.paper_made r' ≡ quality.quality_new c → r ≡ r'
-quality_made_agree c r r' = read_agree quality.paper_made quality_unmade quality_made_back (quality.quality_new c) r r'
-
-pub quality_agree : (c : QualityConfig) (s : QualityState) (q : Float) (r r' : QualityReply) → quality.paper r ≡ quality.quality_step c s q → quality.paper r' ≡ quality.quality_step c s q → r ≡ r'
-quality_agree c s q r r' = read_agree quality.paper quality_unread quality_back (quality.quality_step c s q) r r'
+pub quality_agree : (c : QualityConfig) (s : QualityState) (q : Float) (r r' : Reply QualityState) → quality.paper r ≡ quality.quality_step c s q → quality.paper r' ≡ quality.quality_step c s q → r ≡ r'
+quality_agree c s q r r' = reply_agree quality.result quality_undone (quality.quality_step c s q) r r'

@@ -20,7 +20,8 @@ use Rattle.rvcsi_core.specs.Settings.{million}
 use Rattle.rvcsi_core.proofs.Valid.{clamped_score, score_range, event_valid}
 use Rattle.rvcsi_core.specs.Event.{event_validity_of}
 use Rattle.rvcsi_core.specs.declared.event.CsiEvent.{CsiEvent}
-use Rattle.rvcsi_core.specs.declared.event.EventValidity.TheVariants as passes
+use Rattle.rvcsi_core.specs.declared.event.CsiEventKind.{CsiEventKind}
+use Rattle.std.specs.Prelude.{Ok}
 use Rattle.detectors.specs.declared.presence.PresenceConfig.{PresenceConfig}
 use Rattle.detectors.specs.declared.presence.PresenceState.{PresenceState}
 use Rattle.detectors.specs.declared.motion.MotionConfig.{MotionConfig}
@@ -32,7 +33,7 @@ use Rattle.detectors.specs.Answers.{Kind, Said, said, event, Valid}
 use Rattle.detectors.specs.Hysteresis.{Turn, still, rose, fell, for, moved, move}
 use Rattle.detectors.specs.Presence.{presence_said, presence_move}
 use Rattle.detectors.specs.Motion.{motion_accepted, motion_said, motion_move, settled_of}
-use Rattle.detectors.specs.Quality.{quality_move, dropped_if, calibration_if, low, good, top}
+use Rattle.detectors.specs.Quality.{quality_move, said_if, low, good, top}
 use Rattle.detectors.proofs.Accepted.{motion_settings}
 
 -- ---- what is compared is a number
@@ -124,14 +125,14 @@ turn_valid says true hi true false k s r f = s
 turn_valid says true hi true true k s r f = f tt
 
 -- presence, whatever the settings, the state and the score
-pub presence_valid : (c : PresenceConfig) (s : PresenceState) (p : Float) → Valid (said (presence_move c s p).said)
+pub presence_valid : (c : PresenceConfig) (s : PresenceState) (p : Float) → Valid (said (presence_move c s p).first)
 unfolding presence_move move
 presence_valid c s p =
     turn_valid (λ (t : Turn). said (presence_said t p)) s.present (le c.on_threshold p) (le p c.off_threshold) _ s.streak tt
     (λ h. clamped_score p (le_numbers c.on_threshold p h).1) (λ h. clamped_score (sub binary32 one32 p) (one_less p (le_numbers p c.off_threshold h).0))
 
 -- motion, with settings accepted; `fits` says that the threshold is an f32
-pub motion_valid : (c : MotionConfig) → motion_accepted c ≡ true → T (fits binary32 c.on_threshold) → (s : MotionState) (m : Float) → Valid (said (motion_move c s m).said)
+pub motion_valid : (c : MotionConfig) → motion_accepted c ≡ true → T (fits binary32 c.on_threshold) → (s : MotionState) (m : Float) → Valid (said (motion_move c s m).first)
 unfolding motion_move move settled_of
 motion_valid c ok t s m =
     let a = motion_settings c ok in
@@ -142,13 +143,9 @@ motion_valid c ok t s m =
     (one_less (over_twice m c.on_threshold) (le_numbers zero32 (over_twice m c.on_threshold) (score_range (over_twice m c.on_threshold) (over (le_numbers m c.off_threshold (order.lt_le m c.off_threshold h)).0)).0).1))
 
 -- quality, whatever the settings, the state and the score
-dropped_valid : (b : Bool) (x : Float) → T (score_ok x) → Valid (said (dropped_if b x))
-dropped_valid true x t = t
-dropped_valid false x t = tt
-
-calibration_valid : (b : Bool) (x : Float) → T (score_ok x) → Valid (said (calibration_if b x))
-calibration_valid true x t = t
-calibration_valid false x t = tt
+due_valid : (b : Bool) (k : CsiEventKind) (x : Float) → T (score_ok x) → Valid (said (said_if b k x))
+due_valid true k x t = t
+due_valid false k x t = tt
 
 pub quality_valid : (c : QualityConfig) (s : QualityState) (q : Float) → Valid (said (quality_move c s q).first) × Valid (said (quality_move c s q).second)
 unfolding quality_move
@@ -156,9 +153,9 @@ quality_valid c s q = go (lt q c.drop_threshold) (λ h. clamped_score (sub binar
   where
     go : (b : Bool) → (T b → T (score_ok (clamp_of (sub binary32 one32 q))))
         → Valid (said (cond b (low c s (min (s.low_streak + 1) (top c)) (clamp_of (sub binary32 one32 q))) good).first) × Valid (said (cond b (low c s (min (s.low_streak + 1) (top c)) (clamp_of (sub binary32 one32 q))) good).second)
-    go true f = (dropped_valid (not s.dropped_emitted && leb c.debounce_windows (min (s.low_streak + 1) (top c))) (clamp_of (sub binary32 one32 q)) (f tt), calibration_valid (not s.calib_emitted && leb c.calib_windows (min (s.low_streak + 1) (top c))) (clamp_of (sub binary32 one32 q)) (f tt))
+    go true f = (due_valid (not s.dropped_emitted && leb c.debounce_windows (min (s.low_streak + 1) (top c))) _ (clamp_of (sub binary32 one32 q)) (f tt), due_valid (not s.calib_emitted && leb c.calib_windows (min (s.low_streak + 1) (top c))) _ (clamp_of (sub binary32 one32 q)) (f tt))
     go false f = (tt, tt)
 
 -- an event with such a confidence passes `validate`
-pub event_passes : (k : Kind) (x : Float) → Valid (event k x) → (e : CsiEvent) → e.confidence ≡ x → event_validity_of e ≡ passes.Valid
+pub event_passes : (k : Kind) (x : Float) → Valid (event k x) → (e : CsiEvent) → e.confidence ≡ x → event_validity_of e ≡ Ok tt
 event_passes k x v e h = event_valid e (subst (λ (y : Float). T (score_ok y)) (sym h) v)

@@ -1,4 +1,5 @@
 -- The quality detector over a history from fresh, its settings accepted: what document 01 says of it. Assumes nothing.
+use Rattle.std.specs.Prelude.{Option}
 use mathlib.Core.Path.{◌≡◌, refl, sym, ap, ◌∙◌}
 use mathlib.Core.Bool.{Bool, true, false, not, ◌&&◌, ◌||◌, cond}
 use mathlib.Core.List.{List, [], ◌∷◌}
@@ -13,9 +14,11 @@ use Rattle.rvcsi_core.proofs.Tested.{known}
 use Rattle.detectors.specs.declared.Judgement.{Judgement}
 use Rattle.detectors.specs.declared.quality.QualityConfig.{QualityConfig}
 use Rattle.detectors.specs.declared.quality.QualityState.{QualityState}
-use Rattle.detectors.specs.declared.quality.QualityMoved.{QualityMoved}
+use Rattle.detectors.specs.declared.Moved.{Moved}
+use Rattle.rvcsi_core.specs.declared.event.CsiEventKind.{CsiEventKind}
+use Rattle.rvcsi_core.specs.declared.event.CsiEventKind.TheVariants.{SignalQualityDropped, CalibrationRequired}
 use Rattle.detectors.specs.Answers.{Said, said, taken}
-use Rattle.detectors.specs.Quality.{quality_accepted, quality_in, quality_move, quality_run, first_says, second_says, quality_new, quality_step, dropped_if, calibration_if, low, good, top, result}
+use Rattle.detectors.specs.Quality.{quality_accepted, quality_in, quality_move, quality_run, first_says, second_says, quality_new, quality_step, said_if, low, good, top, result}
 use Rattle.detectors.specs.History.{lows, one, times}
 use Rattle.detectors.proofs.Accepted.{quality_settings}
 use Rattle.detectors.proofs.Ranges.{quality_begins, quality-stays}
@@ -60,8 +63,8 @@ module _ (c : QualityConfig) (ok : quality_accepted c ≡ true) where
   abbrev after-lows : ℕ → QualityState
   after-lows n = record { low_streak = min n (top c); dropped_emitted = leb c.debounce_windows n; calib_emitted = leb c.calib_windows n }
 
-  abbrev at_place : ℕ → Float → QualityMoved
-  at_place n x = record { state = after-lows n; first = dropped_if (eqb n c.debounce_windows) x; second = calibration_if (eqb n c.calib_windows) x }
+  abbrev at_place : ℕ → Float → Moved QualityState
+  at_place n x = record { state = after-lows n; first = said_if (eqb n c.debounce_windows) SignalQualityDropped x; second = said_if (eqb n c.calib_windows) CalibrationRequired x }
 
   abbrev some-debounce : 0 < c.debounce_windows
   some-debounce = (quality_settings c ok).debounce-some
@@ -91,20 +94,20 @@ module _ (c : QualityConfig) (ok : quality_accepted c ≡ true) where
 
   state-is : (past : List Float) → (quality_run c past).state ≡ after-lows (lows c past)
   unfolding quality_run lows
-  state-is [] = ap (λ (m : QualityMoved). m.state) (none one32)
-  state-is (q ∷ past) = rw (state-is past) (ap (λ (m : QualityMoved). m.state) (move-is (lows c past) q))
+  state-is [] = ap (λ (m : Moved QualityState). m.state) (none one32)
+  state-is (q ∷ past) = rw (state-is past) (ap (λ (m : Moved QualityState). m.state) (move-is (lows c past) q))
 
   placed : (q : Float) (past : List Float) → quality_run c (q ∷ past) ≡ at_place (lows c (q ∷ past)) (clamp_of (sub binary32 one32 q))
   unfolding quality_run lows
   placed q past = rw (state-is past) (move-is (lows c past) q)
 
   -- Dropped comes at a window exactly when it is the debounce-th of its stretch of low windows, with 1 - q
-  pub dropped-exactly : (q : Float) (past : List Float) → (quality_run c (q ∷ past)).first ≡ dropped_if (eqb (lows c (q ∷ past)) c.debounce_windows) (clamp_of (sub binary32 one32 q))
-  dropped-exactly q past = ap (λ (m : QualityMoved). m.first) (placed q past)
+  pub dropped-exactly : (q : Float) (past : List Float) → (quality_run c (q ∷ past)).first ≡ said_if (eqb (lows c (q ∷ past)) c.debounce_windows) SignalQualityDropped (clamp_of (sub binary32 one32 q))
+  dropped-exactly q past = ap (λ (m : Moved QualityState). m.first) (placed q past)
 
   -- and calibration when it is the calib-th
-  pub calibration-exactly : (q : Float) (past : List Float) → (quality_run c (q ∷ past)).second ≡ calibration_if (eqb (lows c (q ∷ past)) c.calib_windows) (clamp_of (sub binary32 one32 q))
-  calibration-exactly q past = ap (λ (m : QualityMoved). m.second) (placed q past)
+  pub calibration-exactly : (q : Float) (past : List Float) → (quality_run c (q ∷ past)).second ≡ said_if (eqb (lows c (q ∷ past)) c.calib_windows) CalibrationRequired (clamp_of (sub binary32 one32 q))
+  calibration-exactly q past = ap (λ (m : Moved QualityState). m.second) (placed q past)
 
 -- ---- "once each until a window isn't low": in a stretch of n low windows 0 before the count is reached, 1 from then on
 abbrev reached : Bool → ℕ
@@ -144,23 +147,19 @@ module _ (c : QualityConfig) (count : ℕ) (some : 0 < count) (says : List Float
       go true = omega arith
       go false = omega arith
 
-one_dropped : (b : Bool) (x : Float) → one (said (dropped_if b x)) ≡ reached b
-one_dropped true x = refl
-one_dropped false x = refl
-
-one_calibration : (b : Bool) (x : Float) → one (said (calibration_if b x)) ≡ reached b
-one_calibration true x = refl
-one_calibration false x = refl
+one_if : (b : Bool) (k : CsiEventKind) (x : Float) → one (said (said_if b k x)) ≡ reached b
+one_if true k x = refl
+one_if false k x = refl
 
 module _ (c : QualityConfig) (ok : quality_accepted c ≡ true) where
   -- at most one dropped in a stretch of low windows
   pub dropped-once : (past : List Float) → times (first_says c) (lows c past) past ≤ 1
   dropped-once past =
       once c c.debounce_windows (quality_settings c ok).debounce-some (first_says c)
-      (λ q l. ap (λ (j : Judgement). one (said j)) (dropped-exactly c ok q l) ∙ one_dropped (eqb (lows c (q ∷ l)) c.debounce_windows) (clamp_of (sub binary32 one32 q))) past
+      (λ q l. ap (λ (j : Option Judgement). one (said j)) (dropped-exactly c ok q l) ∙ one_if (eqb (lows c (q ∷ l)) c.debounce_windows) _ (clamp_of (sub binary32 one32 q))) past
 
   -- and at most one calibration
   pub calibration-once : (past : List Float) → times (second_says c) (lows c past) past ≤ 1
   calibration-once past =
       once c c.calib_windows (quality_settings c ok).calib-some (second_says c)
-      (λ q l. ap (λ (j : Judgement). one (said j)) (calibration-exactly c ok q l) ∙ one_calibration (eqb (lows c (q ∷ l)) c.calib_windows) (clamp_of (sub binary32 one32 q))) past
+      (λ q l. ap (λ (j : Option Judgement). one (said j)) (calibration-exactly c ok q l) ∙ one_if (eqb (lows c (q ∷ l)) c.calib_windows) _ (clamp_of (sub binary32 one32 q))) past

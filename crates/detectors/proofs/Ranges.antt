@@ -17,8 +17,7 @@ use Rattle.detectors.specs.Hysteresis.{for, moved, move}
 use Rattle.detectors.specs.Presence.{presence_accepted, presence_in, presence_move, presence_fresh}
 use Rattle.detectors.specs.Motion.{motion_accepted, motion_in, motion_move, motion_fresh}
 use Rattle.detectors.specs.Quality.{quality_accepted, quality_in, quality_move, quality_fresh, top, low, good}
-use Rattle.lists.proofs.Tests.{and2}
-use Rattle.rvcsi_core.proofs.Tested.{join}
+use Rattle.std.proofs.lemmas.Bool.{and_from, and_parts}
 use Rattle.detectors.proofs.Turned.{for_same}
 use Rattle.detectors.proofs.Accepted.{presence_settings, motion_settings}
 
@@ -36,23 +35,23 @@ module _ (enter exit : ℕ) (some : (b : Bool) → 0 < for b enter exit) where
 module _ (c : PresenceConfig) (s : PresenceState) (h : presence_in c s ≡ true) where
   parts : (presence_accepted c ≡ true) × (ltb s.streak (for s.present c.enter_windows c.exit_windows) ≡ true)
   unfolding presence_in
-  parts = and2 (presence_accepted c) (ltb s.streak (for s.present c.enter_windows c.exit_windows)) h
+  parts = and_parts (presence_accepted c) (ltb s.streak (for s.present c.enter_windows c.exit_windows)) h
 
   pub presence-stays : (p : Float) → presence_in c (presence_move c s p).state ≡ true
   unfolding presence_in presence_move move
   presence-stays p =
-      join _ _ parts.0
+      and_from _ _ parts.0
       (lt-ltb _ _ (below c.enter_windows c.exit_windows (presence_settings c parts.0).some s.present (for s.present (le c.on_threshold p) (le p c.off_threshold)) s.streak))
 
 pub presence_begins : (c : PresenceConfig) → presence_accepted c ≡ true → presence_in c presence_fresh ≡ true
 unfolding presence_in
-presence_begins c h = join _ _ h (lt-ltb _ _ ((presence_settings c h).some false))
+presence_begins c h = and_from _ _ h (lt-ltb _ _ ((presence_settings c h).some false))
 
 -- ---- motion
 module _ (c : MotionConfig) (s : MotionState) (h : motion_in c s ≡ true) where
   motion-parts : (motion_accepted c ≡ true) × (ltb s.streak c.debounce_windows ≡ true)
   unfolding motion_in
-  motion-parts = and2 (motion_accepted c) (ltb s.streak c.debounce_windows) h
+  motion-parts = and_parts (motion_accepted c) (ltb s.streak c.debounce_windows) h
 
   pub motion-stays : (m : Float) → motion_in c (motion_move c s m).state ≡ true
   unfolding motion_in motion_move move
@@ -60,11 +59,11 @@ module _ (c : MotionConfig) (s : MotionState) (h : motion_in c s ≡ true) where
       let n = c.debounce_windows in
       let r = moved s.moving (for s.moving (lt c.on_threshold m) (lt m c.off_threshold)) (leb (for s.moving n n) (s.streak + 1)) s.streak in
       let b : r.streak < for r.on n n = below n n (motion_settings c motion-parts.0).some s.moving (for s.moving (lt c.on_threshold m) (lt m c.off_threshold)) s.streak in
-      join _ _ motion-parts.0 (lt-ltb _ _ (subst (λ (x : ℕ). r.streak < x) (for_same r.on n) b))
+      and_from _ _ motion-parts.0 (lt-ltb _ _ (subst (λ (x : ℕ). r.streak < x) (for_same r.on n) b))
 
 pub motion_begins : (c : MotionConfig) → motion_accepted c ≡ true → motion_in c motion_fresh ≡ true
 unfolding motion_in
-motion_begins c h = join _ _ h (lt-ltb _ _ ((motion_settings c h).some false))
+motion_begins c h = and_from _ _ h (lt-ltb _ _ ((motion_settings c h).some false))
 
 -- ---- quality
 held : (c : QualityConfig) (s : QualityState) (x : Float) (b : Bool) → leb (cond b (low c s (min (s.low_streak + 1) (top c)) x) good).state.low_streak (top c) ≡ true
@@ -74,12 +73,12 @@ held c s x false = le-leb 0 (top c) (omega arith)
 module _ (c : QualityConfig) (s : QualityState) (h : quality_in c s ≡ true) where
   quality-parts : (quality_accepted c ≡ true) × (leb s.low_streak (top c) ≡ true)
   unfolding quality_in
-  quality-parts = and2 (quality_accepted c) (leb s.low_streak (top c)) h
+  quality-parts = and_parts (quality_accepted c) (leb s.low_streak (top c)) h
 
   pub quality-stays : (q : Float) → quality_in c (quality_move c s q).state ≡ true
   unfolding quality_in quality_move
-  quality-stays q = join _ _ quality-parts.0 (held c s (clamp_of (sub binary32 one32 q)) (lt q c.drop_threshold))
+  quality-stays q = and_from _ _ quality-parts.0 (held c s (clamp_of (sub binary32 one32 q)) (lt q c.drop_threshold))
 
 pub quality_begins : (c : QualityConfig) → quality_accepted c ≡ true → quality_in c quality_fresh ≡ true
 unfolding quality_in
-quality_begins c h = join _ _ h (le-leb 0 (top c) (omega arith))
+quality_begins c h = and_from _ _ h (le-leb 0 (top c) (omega arith))

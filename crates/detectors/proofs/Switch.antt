@@ -14,7 +14,8 @@ use lib.Ieee.{Float, nan}
 use Rattle.detectors.specs.Answers.{Kind, Said, quiet, event}
 use Rattle.detectors.specs.Hysteresis.{Turn, still, rose, fell, Moved, for, turned, moved, move}
 use Rattle.detectors.specs.History.{after, since, LastMet, noted, events, Alternating}
-use Rattle.rvcsi_core.proofs.Tested.{holds, shown, fails, is_false}
+use Rattle.rvcsi_core.proofs.Tested.{shown, fails, is_false}
+use Rattle.std.proofs.lemmas.Float.{T_from_true}
 use Rattle.detectors.proofs.Ranges.{below}
 
 -- The switch after a history, newest first. It starts off, with streak 0.
@@ -51,7 +52,7 @@ module _ (lim : Bool → Float → Bool) (says : Turn → Float → Said) (says-
   kept_step b k n p past false y e h = record { within = zero-le; met = λ i l. absurd (not-suc-le-zero l); stops = inr (fails e) }
   kept_step b k n p past true false e h = record {
     within = omega (arith, h.within, older p n);
-    met = one_more b k p past (holds e) h.met;
+    met = one_more b k p past (T_from_true _ e) h.met;
     stops = ⊎_elim (λ (q : k ≡ n). inl (ap (λ (z : ℕ). z + 1) q ∙ sym (older p n))) (λ (q : T (lim b (get_or past k nan)) → ⊥). inr (subst (λ (z : ℕ). T (lim b (get_or (p ∷ past) z nan)) → ⊥) (sym (add-one k)) q)) h.stops;
   }
   kept_step b k n p past true true e h = record { within = zero-le; met = λ i l. absurd (not-suc-le-zero l); stops = inl (sym (says-turned b p n)) }
@@ -65,7 +66,7 @@ module _ (lim : Bool → Float → Bool) (says : Turn → Float → Said) (says-
   turn-met b k n c p past false y e f h t = absurd (not-still b t)
   turn-met b k n c p past true false e f h t = absurd (not-still b t)
   turn-met b k n c p past true true e f h t =
-      record { after-event = omega (arith, leb-true c (k + 1) f, h.within); met = λ i l. one_more b k p past (holds e) h.met i (omega (arith, leb-true c (k + 1) f)) }
+      record { after-event = omega (arith, leb-true c (k + 1) f, h.within); met = λ i l. one_more b k p past (T_from_true _ e) h.met i (omega (arith, leb-true c (k + 1) f)) }
 
   met-turn : (b : Bool) (k n c : ℕ) (p : Float) (past : List Float) (x y : Bool) → lim b p ≡ x → leb c (k + 1) ≡ y → 0 < c → Kept b k n past → LastMet (lim b) c (n + 1) (p ∷ past) → (moved b x y k).turn ≡ turned b
   met-turn b k n c p past false y e f s h m = absurd (fails e (m.met 0 s))

@@ -1,8 +1,9 @@
 -- Judgements and answers as document 01 has them.
-use Rattle.std.specs.Prelude.{Bool, true, false, List, ℕ, T, Float}
+use Rattle.std.specs.Prelude.{Bool, true, false, List, [], ◌∷◌, ℕ, T, Float, Option, Some, None}
 use Rattle.rvcsi_core.specs.Score.{score_ok}
 use Rattle.detectors.specs.declared.Judgement.{Judgement}
-use Rattle.detectors.specs.declared.Judgement.TheVariants.{Quiet, PresenceStarted, PresenceEnded, MotionDetected, MotionSettled, BaselineChanged, SignalQualityDropped, AnomalyDetected, CalibrationRequired}
+use Rattle.rvcsi_core.specs.declared.event.CsiEventKind.{CsiEventKind}
+use Rattle.rvcsi_core.specs.declared.event.CsiEventKind.TheVariants.{PresenceStarted, PresenceEnded, MotionDetected, MotionSettled, BaselineChanged, SignalQualityDropped, AnomalyDetected, CalibrationRequired}
 
 -- "Kinds: presence-started, presence-ended, motion-detected, motion-settled, baseline-changed, quality-dropped, anomaly, calibration."
 pub data Kind : Type 0 where
@@ -13,16 +14,28 @@ pub data Said : Type 0 where
   quiet : Said
   event : Kind → Float → Said
 
-abbrev pub said : Judgement → Said
-said Quiet = quiet
-said (PresenceStarted x) = event presence-started x
-said (PresenceEnded x) = event presence-ended x
-said (MotionDetected x) = event motion-detected x
-said (MotionSettled x) = event motion-settled x
-said (BaselineChanged x) = event baseline-changed x
-said (SignalQualityDropped x) = event quality-dropped x
-said (AnomalyDetected x) = event anomaly x
-said (CalibrationRequired x) = event calibration x
+abbrev pub kind_of : CsiEventKind → Kind
+kind_of PresenceStarted = presence-started
+kind_of PresenceEnded = presence-ended
+kind_of MotionDetected = motion-detected
+kind_of MotionSettled = motion-settled
+kind_of BaselineChanged = baseline-changed
+kind_of SignalQualityDropped = quality-dropped
+kind_of AnomalyDetected = anomaly
+kind_of CalibrationRequired = calibration
+
+abbrev pub said : Option Judgement → Said
+said None = quiet
+said (Some j) = event (kind_of j.kind) j.confidence
+
+-- a judgement of a kind, with its confidence
+abbrev pub speaks : CsiEventKind → Float → Option Judgement
+speaks k x = Some (record { kind = k; confidence = x })
+
+-- what stands behind the first judgement: nothing where nothing is said
+abbrev pub further : Option Judgement → List Said
+further None = []
+further (Some j) = said (Some j) ∷ []
 
 -- "an event valid exactly when its confidence is from 0 to 1"; a NaN isn't
 abbrev pub Valid : Said → Type 0

@@ -1,19 +1,16 @@
 -- The motion detector.
-use Rattle.std.specs.Prelude.{Bool, false, ◌&&◌, List, [], ◌∷◌, leb, ltb, Float}
+use Rattle.std.specs.Prelude.{Bool, false, ◌&&◌, List, [], ◌∷◌, leb, ltb, Float, Option, None}
 use Rattle.std.specs.Float.{binary32}
 use Rattle.std.specs.Float.Ieee.{of_bits, lt, sub}
 use Rattle.floats.specs.Clamp.{one32, clamp_of}
 use Rattle.detectors.specs.declared.Judgement.{Judgement}
-use Rattle.detectors.specs.declared.Judgement.TheVariants.{Quiet, MotionDetected, MotionSettled}
+use Rattle.rvcsi_core.specs.declared.event.CsiEventKind.TheVariants.{MotionDetected, MotionSettled}
 use Rattle.detectors.specs.declared.motion.MotionConfig.{MotionConfig}
 use Rattle.detectors.specs.declared.motion.MotionState.{MotionState}
-use Rattle.detectors.specs.declared.motion.MotionMoved.{MotionMoved}
-use Rattle.detectors.specs.declared.motion.MotionMade.{MotionMade}
-use Rattle.detectors.specs.declared.motion.MotionMade.TheVariants.{Fresh, NotAccepted}
-use Rattle.detectors.specs.declared.motion.MotionReply.{MotionReply}
-use Rattle.detectors.specs.declared.motion.MotionReply.TheVariants.{Judged, OutOfRange}
+use Rattle.detectors.specs.declared.Moved as Code
 use Rattle.detectors.specs.Common.{limits_ok, over_twice}
-use Rattle.detectors.specs.Answers.{Said, said, Result, Answer, taken, refusal, unless}
+use Rattle.detectors.specs.Answers.{Said, said, speaks, further, Result, Answer, taken, unless}
+use Rattle.detectors.specs.Replies.{Made, Reply, on_paper_made, on_paper}
 use Rattle.detectors.specs.Hysteresis.{Turn, still, rose, fell, Moved, move}
 
 -- "motion 0.05, 0.02, debounce 2"
@@ -36,30 +33,30 @@ unfoldable pub settled_of : Float → Float → Float
 settled_of on m = clamp_of (sub binary32 one32 (over_twice m on))
 
 -- "Confidence m/(2*on)"
-abbrev pub motion_said : Turn → Float → Float → Judgement
-motion_said still on m = Quiet
-motion_said rose on m = MotionDetected (over_twice m on)
-motion_said fell on m = MotionSettled (settled_of on m)
+abbrev pub motion_said : Turn → Float → Float → Option Judgement
+motion_said still on m = None
+motion_said rose on m = speaks MotionDetected (over_twice m on)
+motion_said fell on m = speaks MotionSettled (settled_of on m)
 
-abbrev pub motion_told : Moved → Float → Float → MotionMoved
-motion_told r on m = record { state = record { moving = r.on; streak = r.streak }; said = motion_said r.turn on m }
+abbrev pub motion_told : Moved → Float → Float → Code.Moved MotionState
+motion_told r on m = record { state = record { moving = r.on; streak = r.streak }; first = motion_said r.turn on m; second = None }
 
 -- "strict both ways, m > on and m < off"; one count for both
-unfoldable pub motion_move : MotionConfig → MotionState → Float → MotionMoved
+unfoldable pub motion_move : MotionConfig → MotionState → Float → Code.Moved MotionState
 motion_move c s m =
     let n = c.debounce_windows in
     motion_told (move n n (lt c.on_threshold m) (lt m c.off_threshold) s.moving s.streak) c.on_threshold m
 
 -- The detector after a history of motion energies from fresh, newest first: its state, and what it said of the newest
-unfoldable pub motion_run : MotionConfig → List Float → MotionMoved
-motion_run c [] = record { state = motion_fresh; said = Quiet }
+unfoldable pub motion_run : MotionConfig → List Float → Code.Moved MotionState
+motion_run c [] = record { state = motion_fresh; first = None; second = None }
 motion_run c (m ∷ past) = motion_move c (motion_run c past).state m
 
 abbrev pub moving_after : MotionConfig → List Float → Bool
 moving_after c past = (motion_run c past).state.moving
 
 abbrev pub motion_says : MotionConfig → List Float → Said
-motion_says c past = said (motion_run c past).said
+motion_says c past = said (motion_run c past).first
 
 -- ---- on paper
 
@@ -67,17 +64,15 @@ motion_says c past = said (motion_run c past).said
 unfoldable pub motion_new : MotionConfig → Answer MotionState
 motion_new c = unless (motion_accepted c) 1 (taken motion_fresh)
 
-abbrev pub paper_made : MotionMade → Answer MotionState
-paper_made (Fresh s) = taken s
-paper_made NotAccepted = refusal 1
+abbrev pub paper_made : Made MotionState → Answer MotionState
+paper_made r = on_paper_made r
 
-abbrev pub result : MotionMoved → Result MotionState
-result m = record { state = m.state; judgements = said m.said ∷ [] }
+abbrev pub result : Code.Moved MotionState → Result MotionState
+result m = record { state = m.state; judgements = said m.first ∷ further m.second }
 
 -- 14 "state out of range"
 unfoldable pub motion_step : MotionConfig → MotionState → Float → Answer (Result MotionState)
 motion_step c s m = unless (motion_in c s) 14 (taken (result (motion_move c s m)))
 
-abbrev pub paper : MotionReply → Answer (Result MotionState)
-paper (Judged s j) = taken (record { state = s; judgements = said j ∷ [] })
-paper OutOfRange = refusal 14
+abbrev pub paper : Reply MotionState → Answer (Result MotionState)
+paper r = on_paper result r

@@ -1,20 +1,18 @@
 -- The quality detector.
-use Rattle.std.specs.Prelude.{Bool, true, false, not, ◌&&◌, ◌||◌, cond, List, [], ◌∷◌, ℕ, ◌+◌, min, max, leb, Float}
+use Rattle.std.specs.Prelude.{Bool, true, false, not, ◌&&◌, ◌||◌, cond, List, [], ◌∷◌, ℕ, ◌+◌, min, max, leb, Float, Option, None}
 use Rattle.std.specs.Float.{binary32}
 use Rattle.std.specs.Float.Ieee.{of_bits, lt, sub}
 use Rattle.floats.specs.Clamp.{one32, clamp_of}
 use Rattle.rvcsi_core.specs.Settings.{threshold_ok}
 use Rattle.detectors.specs.declared.Judgement.{Judgement}
-use Rattle.detectors.specs.declared.Judgement.TheVariants.{Quiet, SignalQualityDropped, CalibrationRequired}
+use Rattle.rvcsi_core.specs.declared.event.CsiEventKind.{CsiEventKind}
+use Rattle.rvcsi_core.specs.declared.event.CsiEventKind.TheVariants.{SignalQualityDropped, CalibrationRequired}
 use Rattle.detectors.specs.declared.quality.QualityConfig.{QualityConfig}
 use Rattle.detectors.specs.declared.quality.QualityState.{QualityState}
-use Rattle.detectors.specs.declared.quality.QualityMoved.{QualityMoved}
-use Rattle.detectors.specs.declared.quality.QualityMade.{QualityMade}
-use Rattle.detectors.specs.declared.quality.QualityMade.TheVariants.{Fresh, NotAccepted}
-use Rattle.detectors.specs.declared.quality.QualityReply.{QualityReply}
-use Rattle.detectors.specs.declared.quality.QualityReply.TheVariants.{Judged, OutOfRange}
+use Rattle.detectors.specs.declared.Moved.{Moved}
 use Rattle.detectors.specs.Common.{counts_ok}
-use Rattle.detectors.specs.Answers.{Said, said, Result, Answer, taken, refusal, unless}
+use Rattle.detectors.specs.Answers.{Said, said, speaks, Result, Answer, taken, unless}
+use Rattle.detectors.specs.Replies.{Made, Reply, on_paper_made, on_paper}
 
 -- "quality drop 0.4, debounce 2, calib 4"
 unfoldable pub quality_default : QualityConfig
@@ -35,16 +33,13 @@ quality_in c s = quality_accepted c && leb s.low_streak (top c)
 abbrev pub quality_fresh : QualityState
 quality_fresh = record { low_streak = 0; dropped_emitted = false; calib_emitted = false }
 
-abbrev pub dropped_if : Bool → Float → Judgement
-dropped_if true x = SignalQualityDropped x
-dropped_if false x = Quiet
-
-abbrev pub calibration_if : Bool → Float → Judgement
-calibration_if true x = CalibrationRequired x
-calibration_if false x = Quiet
+-- what is said where it is due
+abbrev pub said_if : Bool → CsiEventKind → Float → Option Judgement
+said_if true k x = speaks k x
+said_if false k x = None
 
 -- a low window: `up` is the new streak, `x` the confidence; "dropped, then calibration .., once each"
-abbrev pub low : QualityConfig → QualityState → ℕ → Float → QualityMoved
+abbrev pub low : QualityConfig → QualityState → ℕ → Float → Moved QualityState
 low c s up x =
     record {
       state =
@@ -53,21 +48,21 @@ low c s up x =
             dropped_emitted = s.dropped_emitted || leb c.debounce_windows up;
             calib_emitted = s.calib_emitted || leb c.calib_windows up;
           };
-      first = dropped_if (not s.dropped_emitted && leb c.debounce_windows up) x;
-      second = calibration_if (not s.calib_emitted && leb c.calib_windows up) x;
+      first = said_if (not s.dropped_emitted && leb c.debounce_windows up) SignalQualityDropped x;
+      second = said_if (not s.calib_emitted && leb c.calib_windows up) CalibrationRequired x;
     }
 
 -- "until a window isn't low"
-abbrev pub good : QualityMoved
-good = record { state = quality_fresh; first = Quiet; second = Quiet }
+abbrev pub good : Moved QualityState
+good = record { state = quality_fresh; first = None; second = None }
 
 -- "q < drop raises the streak (held at the larger count ..)"; "(both 1 - q)"
-unfoldable pub quality_move : QualityConfig → QualityState → Float → QualityMoved
+unfoldable pub quality_move : QualityConfig → QualityState → Float → Moved QualityState
 quality_move c s q =
     cond (lt q c.drop_threshold) (low c s (min (s.low_streak + 1) (top c)) (clamp_of (sub binary32 one32 q))) good
 
 -- The detector after a history of quality scores from fresh, newest first: its state, and what it said of the newest
-unfoldable pub quality_run : QualityConfig → List Float → QualityMoved
+unfoldable pub quality_run : QualityConfig → List Float → Moved QualityState
 quality_run c [] = good
 quality_run c (q ∷ past) = quality_move c (quality_run c past).state q
 
@@ -83,17 +78,15 @@ second_says c past = said (quality_run c past).second
 unfoldable pub quality_new : QualityConfig → Answer QualityState
 quality_new c = unless (quality_accepted c) 1 (taken quality_fresh)
 
-abbrev pub paper_made : QualityMade → Answer QualityState
-paper_made (Fresh s) = taken s
-paper_made NotAccepted = refusal 1
+abbrev pub paper_made : Made QualityState → Answer QualityState
+paper_made r = on_paper_made r
 
-abbrev pub result : QualityMoved → Result QualityState
+abbrev pub result : Moved QualityState → Result QualityState
 result m = record { state = m.state; judgements = said m.first ∷ said m.second ∷ [] }
 
 -- 14 "state out of range"
 unfoldable pub quality_step : QualityConfig → QualityState → Float → Answer (Result QualityState)
 quality_step c s q = unless (quality_in c s) 14 (taken (result (quality_move c s q)))
 
-abbrev pub paper : QualityReply → Answer (Result QualityState)
-paper (Judged s j k) = taken (record { state = s; judgements = said j ∷ said k ∷ [] })
-paper OutOfRange = refusal 14
+abbrev pub paper : Reply QualityState → Answer (Result QualityState)
+paper r = on_paper result r

@@ -1,74 +1,59 @@
-// The switch that presence and motion are: two limits and two counts.
+// The switch that presence and motion are: two limits and two counts. Beyond it the two differ in their rules, not in a type.
 ghost use Rattle.std.specs.Prelude.{◌≡◌, ◌+◌, leb};
 ghost use Rattle.detectors.specs.Hysteresis.{for, moved};
 ghost use Rattle.detectors.specs.Latch.{latched};
 
-// Which way the switch went at a window, if it did.
+// Which way the switch went.
 #[derive(Clone, Copy)]
 pub enum Turn {
-    Still,
     Rose,
     Fell,
 }
 
-// The switch after a window.
+// The switch after a window, and its turn if it turned.
 #[derive(Clone, Copy)]
 pub struct Latch {
     pub on: bool,
     pub streak: u32,
-    pub turn: Turn,
+    pub turn: Option<Turn>,
 }
 
-// Does a window count: does it meet the limit in force?
-pub fn met(on: bool, high: bool, low: bool) -> bool
-    ensures { result ≡ for on high low }
+// What goes for a switch that is off, and for one that is on: the limit met, the count.
+pub fn in_force<X: Copy>(on: bool, off_value: X, on_value: X) -> X
+    ensures { result ≡ for on off_value on_value }
 {
-    if on { low } else { high }
+    if on { on_value } else { off_value }
 }
 
-// The count in force.
-pub fn count_for(on: bool, enter: u32, exit: u32) -> u32
-    ensures { result ≡ for on enter exit }
-{
-    if on { exit } else { enter }
-}
-
-// Does one more reach the count?
+// Does one more reach the count? One more than a streak of 2^32 - 1 has no room.
 fn full(streak: u32, count: u32) -> bool
     ensures { result ≡ leb count (streak + 1) }
 {
     count == 0 || count - 1 <= streak
 }
 
-// One window.
-pub fn advance(on: bool, streak: u32, counts: bool, count: u32) -> Latch
-    ensures { latched result ≡ moved on counts (leb count (streak + 1)) streak }
+// One window, which met the limit in force or not.
+pub fn advance(on: bool, streak: u32, met: bool, count: u32) -> Latch
+    ensures { latched result ≡ moved on met (leb count (streak + 1)) streak }
 {
-    if counts {
-        if full(streak, count) {
-            if on {
-                return Latch {
-                    on: false,
-                    streak: 0,
-                    turn: Turn::Fell,
-                };
-            }
-            return Latch {
-                on: true,
-                streak: 0,
-                turn: Turn::Rose,
-            };
-        }
-        let next = streak + 1;
+    if !met {
         return Latch {
             on,
-            streak: next,
-            turn: Turn::Still,
+            streak: 0,
+            turn: None,
         };
     }
+    if !full(streak, count) {
+        return Latch {
+            on,
+            streak: streak + 1,
+            turn: None,
+        };
+    }
+    let turn = if on { Turn::Fell } else { Turn::Rose };
     Latch {
-        on,
+        on: !on,
         streak: 0,
-        turn: Turn::Still,
+        turn: Some(turn),
     }
 }

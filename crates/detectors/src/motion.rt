@@ -1,9 +1,11 @@
 // The motion detector: strict both ways, above on while settled, below off while moving.
 ghost use Rattle.std.specs.Prelude.{◌≡◌};
-ghost use Rattle.detectors.specs.Motion.{motion_default, motion_accepted, motion_in, motion_move, settled_of, motion_new, motion_step, paper_made, paper};
+ghost use Rattle.detectors.specs.Latch.{turn_of};
+ghost use Rattle.detectors.specs.Motion.{settled_of, motion_said};
 
-use crate::Judgement;
-use crate::hysteresis::Turn;
+use crate::hysteresis::{Turn, advance, in_force};
+use crate::{Judgement, Moved, Scored, Settings};
+use rvcsi_core::event::CsiEventKind;
 
 #[derive(Clone, Copy)]
 pub struct MotionConfig {
@@ -12,72 +14,73 @@ pub struct MotionConfig {
     pub debounce_windows: u32,
 }
 
+// A type of its own, and `moved` a method of its own: presence has the same switch, and goes by another rule.
 #[derive(Clone, Copy)]
 pub struct MotionState {
     pub moving: bool,
     pub streak: u32,
 }
 
-// The state after a window, and what is said of it.
-#[derive(Clone, Copy)]
-pub struct MotionMoved {
-    pub state: MotionState,
-    pub said: Judgement,
-}
+impl Default for MotionConfig {
+    ghost use Rattle.detectors.specs.Motion.{motion_default};
 
-// Reply 0 with the fresh state, or 1.
-#[derive(Clone, Copy)]
-pub enum MotionMade {
-    Fresh(MotionState),
-    NotAccepted,
-}
+    ghost is_default = { λ c. c ≡ motion_default };
 
-// Reply 0 with the state after the window and the judgement, or 14.
-#[derive(Clone, Copy)]
-pub enum MotionReply {
-    Judged(MotionState, Judgement),
-    OutOfRange,
-}
-
-pub fn default() -> MotionConfig
-    ensures { result ≡ motion_default }
-{
-    MotionConfig {
-        on_threshold: 0.05,
-        off_threshold: 0.02,
-        debounce_windows: 2,
+    fn default() -> MotionConfig {
+        MotionConfig {
+            on_threshold: 0.05,
+            off_threshold: 0.02,
+            debounce_windows: 2,
+        }
     }
 }
 
-pub fn accepted(c: MotionConfig) -> bool
-    ensures { result ≡ motion_accepted c }
-{
-    if !crate::limits_ok(c.on_threshold, c.off_threshold) {
-        return false;
+impl Settings for MotionConfig {
+    type State = MotionState;
+
+    ghost use Rattle.detectors.specs.Motion.{motion_accepted, motion_fresh, motion_in};
+
+    ghost accepts = { motion_accepted };
+
+    ghost begins = { motion_fresh };
+
+    ghost ranges = { motion_in };
+
+    fn accepted(self) -> bool {
+        crate::limits_ok(self.on_threshold, self.off_threshold) && 1 <= self.debounce_windows
     }
-    1 <= c.debounce_windows
+
+    // Settled.
+    fn fresh() -> MotionState {
+        MotionState {
+            moving: false,
+            streak: 0,
+        }
+    }
+
+    fn in_range(self, s: MotionState) -> bool {
+        self.accepted() && s.streak < self.debounce_windows
+    }
 }
 
-// A detector with these settings, settled.
-pub fn with_config(c: MotionConfig) -> MotionMade
-    ensures { paper_made result ≡ motion_new c }
-{
-    if !accepted(c) {
-        return MotionMade::NotAccepted;
-    }
-    MotionMade::Fresh(MotionState {
-        moving: false,
-        streak: 0,
-    })
-}
+impl Scored for MotionConfig {
+    ghost use Rattle.detectors.specs.Motion.{motion_move};
 
-pub fn in_range(c: MotionConfig, s: MotionState) -> bool
-    ensures { result ≡ motion_in c s }
-{
-    if !accepted(c) {
-        return false;
+    ghost moves = { motion_move };
+
+    fn moved(self, s: MotionState, x: f32) -> Moved<MotionState> {
+        let met = in_force(s.moving, x > self.on_threshold, x < self.off_threshold);
+        let l = advance(s.moving, s.streak, met, self.debounce_windows);
+        let state = MotionState {
+            moving: l.on,
+            streak: l.streak,
+        };
+        Moved {
+            state,
+            first: said(l.turn, self.on_threshold, x),
+            second: None,
+        }
     }
-    s.streak < c.debounce_windows
 }
 
 // The confidence of settling: 1 less that of the same motion detected.
@@ -87,42 +90,19 @@ fn settled(on: f32, m: f32) -> f32
     floats::clamp01(1.0 - crate::over_twice(m, on))
 }
 
-// One window, in range or not.
-pub fn moved(c: MotionConfig, s: MotionState, m: f32) -> MotionMoved
-    ensures { result ≡ motion_move c s m }
+// What a turn at the motion energy m says.
+fn said(turn: Option<Turn>, on: f32, m: f32) -> Option<Judgement>
+    ensures { result ≡ motion_said (turn_of turn) on m }
 {
-    let counts = crate::hysteresis::met(s.moving, m > c.on_threshold, m < c.off_threshold);
-    let l = crate::hysteresis::advance(s.moving, s.streak, counts, c.debounce_windows);
-    let state = MotionState {
-        moving: l.on,
-        streak: l.streak,
-    };
-    let turn = l.turn;
     match turn {
-        Turn::Still => MotionMoved {
-            state,
-            said: Judgement::Quiet,
-        },
-        Turn::Rose => MotionMoved {
-            state,
-            said: Judgement::MotionDetected(crate::over_twice(m, c.on_threshold)),
-        },
-        Turn::Fell => MotionMoved {
-            state,
-            said: Judgement::MotionSettled(settled(c.on_threshold, m)),
-        },
+        None => None,
+        Some(Turn::Rose) => Some(Judgement {
+            kind: CsiEventKind::MotionDetected,
+            confidence: crate::over_twice(m, on),
+        }),
+        Some(Turn::Fell) => Some(Judgement {
+            kind: CsiEventKind::MotionSettled,
+            confidence: settled(on, m),
+        }),
     }
-}
-
-// One window with the motion energy m.
-pub fn on_window(c: MotionConfig, s: MotionState, m: f32) -> MotionReply
-    ensures { paper result ≡ motion_step c s m }
-{
-    if !in_range(c, s) {
-        return MotionReply::OutOfRange;
-    }
-    let next = moved(c, s, m);
-    let state = next.state;
-    let said = next.said;
-    MotionReply::Judged(state, said)
 }

@@ -1,4 +1,5 @@
 -- No judgement carries a NaN, and every confidence is from 0 to 1, whatever the list, the store and the state. Assumes nothing.
+use Rattle.std.specs.Prelude.{Option, None}
 use mathlib.Core.Path.{◌≡◌, refl, sym, ap, subst, ◌∙◌}
 use mathlib.Core.Bool.{Bool, true, false, not, ◌&&◌, cond}
 use mathlib.Core.List.{List, [], ◌∷◌}
@@ -18,15 +19,16 @@ use Rattle.floats.specs.Clamp.{zero32}
 use Rattle.floats.proofs.Order as order
 use Rattle.floats.proofs.Exact.{some, div_number}
 use Rattle.floats.proofs.Numbers.{not-false}
-use Rattle.lists.proofs.Tests.{and2}
+use Rattle.std.proofs.lemmas.Bool.{and_parts, cond_both}
 use Rattle.rvcsi_core.specs.Score.{score_ok}
 use Rattle.rvcsi_core.specs.Settings.{million}
-use Rattle.rvcsi_core.proofs.Tested.{holds, shown, is_false, either}
+use Rattle.rvcsi_core.proofs.Tested.{shown, is_false}
+use Rattle.std.proofs.lemmas.Float.{T_from_true}
 use Rattle.rvcsi_core.proofs.Valid.{clamped_score}
 use Rattle.detectors.specs.Common.{two32, over_twice}
-use Rattle.detectors.specs.Answers.{Said, said, Valid, Result, Answer, taken, refusal, unless}
+use Rattle.detectors.specs.Answers.{speaks, Said, said, Valid, Result, Answer, taken, refusal, unless}
 use Rattle.detectors.specs.declared.Judgement.{Judgement}
-use Rattle.detectors.specs.declared.Judgement.TheVariants.{Quiet, AnomalyDetected}
+use Rattle.rvcsi_core.specs.declared.event.CsiEventKind.TheVariants.{AnomalyDetected}
 use Rattle.detectors.proofs.Confidence.{le_numbers}
 use Rattle.drift.specs.declared.BaselineDriftConfig.{BaselineDriftConfig}
 use Rattle.drift.specs.declared.DriftState.{DriftState}
@@ -133,8 +135,8 @@ module _ (c : BaselineDriftConfig) (ok : drift_accepted c ≡ true) where
   anomaly-valid : (d : Float) → Valid (said (anomaly_if c d))
   unfolding anomaly_if
   anomaly-valid d =
-      either (λ (j : Judgement). Valid (said j)) (lt c.anomaly_threshold d) (AnomalyDetected (over_twice d c.anomaly_threshold)) Quiet
-      (λ e. over_twice_valid d c.anomaly_threshold (settings c ok).anomaly (holds e)) (λ e. tt)
+      cond_both (lt c.anomaly_threshold d) (speaks AnomalyDetected (over_twice d c.anomaly_threshold)) None (λ (j : Option Judgement). Valid (said j))
+      (λ e. over_twice_valid d c.anomaly_threshold (settings c ok).anomaly (T_from_true _ e)) (λ e. tt)
 
   -- the count is reached by a window above the threshold only
   counted : (k : ℕ) (d : Float) → leb c.drift_windows (streak_of c k d) ≡ true → T (lt c.drift_threshold d)
@@ -148,7 +150,7 @@ module _ (c : BaselineDriftConfig) (ok : drift_accepted c ≡ true) where
   weighed-valid : (k : ℕ) (d : Float) (cur base : List Float) → BothValid (weighed c k d cur base)
   unfolding weighed
   weighed-valid k d cur base =
-      either BothValid (leb c.drift_windows (streak_of c k d)) _ _
+      cond_both (leb c.drift_windows (streak_of c k d)) _ _ BothValid
       (λ e. (anomaly-valid d, over_twice_valid d c.drift_threshold (settings c ok).drift (counted k d e))) (λ e. (anomaly-valid d, tt))
 
   pub drift-valid : (s : DriftState) (cur base : List Float) → BothValid (drift_move c s cur base)
@@ -169,7 +171,7 @@ pub step_valid : (c : BaselineDriftConfig) (s : DriftState) (cur store : List Fl
 unfolding drift_step drift_in
 step_valid c s cur store =
     go (leb most (length store)) (drift_in c s) (leb (length cur) most)
-    (λ e. drift-valid c (and2 (drift_accepted c) (length_ok s.baseline) (and2 (drift_accepted c && length_ok s.baseline) (ltb s.drift_streak c.drift_windows) e).0).0 s cur store)
+    (λ e. drift-valid c (and_parts (drift_accepted c) (length_ok s.baseline) (and_parts (drift_accepted c && length_ok s.baseline) (ltb s.drift_streak c.drift_windows) e).0).0 s cur store)
   where
     go : (a b d : Bool) → (b ≡ true → BothValid (drift_move c s cur store)) → AnswerValid (leaves store (unless a 13 (unless b 14 (unless d 5 (taken (drift_move c s cur store)))))).reply
     go false b d h = tt

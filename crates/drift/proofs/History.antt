@@ -1,4 +1,5 @@
 -- What the drift detector does over a history from fresh, with accepted settings. Assumes nothing.
+use Rattle.std.specs.Prelude.{Option, Some, None}
 use mathlib.Core.Path.{◌≡◌, refl, sym, ap, subst, ◌∙◌}
 use mathlib.Core.Bool.{Bool, true, false, not, ◌&&◌, cond}
 use mathlib.Core.List.{List, [], ◌∷◌, ◌++◌}
@@ -9,14 +10,13 @@ use lib.Dec.{leb}
 use lib.ListN.{length, drop}
 use lib.Ieee.{Float, lt}
 use Rattle.lists.proofs.Paste.{laid-fits}
-use Rattle.rvcsi_core.proofs.Tested.{known, either, leb_less}
+use Rattle.rvcsi_core.proofs.Tested.{known, leb_less}
+use Rattle.std.proofs.lemmas.Bool.{cond_both}
 use Rattle.detectors.specs.Common.{over_twice}
-use Rattle.detectors.specs.Answers.{said, quiet, event, anomaly, baseline-changed, taken}
+use Rattle.detectors.specs.Answers.{speaks, said, quiet, event, anomaly, baseline-changed, taken}
 use Rattle.detectors.specs.declared.Judgement.{Judgement}
-use Rattle.detectors.specs.declared.Judgement.TheVariants.{Quiet, BaselineChanged, AnomalyDetected}
+use Rattle.rvcsi_core.specs.declared.event.CsiEventKind.TheVariants.{AnomalyDetected, BaselineChanged}
 use Rattle.drift.specs.declared.BaselineDriftConfig.{BaselineDriftConfig}
-use Rattle.drift.specs.declared.Baseline.{Baseline}
-use Rattle.drift.specs.declared.Baseline.TheVariants.{Unset, Set}
 use Rattle.drift.specs.declared.DriftState.{DriftState}
 use Rattle.drift.specs.Settings.{drift_accepted, drift_fresh, drift_new}
 use Rattle.drift.specs.Distance.{distance_of}
@@ -32,7 +32,7 @@ leb_more : (n k : ℕ) → leb n k ≡ leb (suc n) (k + 1)
 leb_more n k =
     known (leb n k) (λ e. e ∙ sym (le-leb (suc n) (k + 1) (omega (arith, leb-true n k e)))) (λ e. e ∙ sym (lt-leb (suc n) (k + 1) (omega (arith, leb-false n k e))))
 
-not_set : (b : Baseline) (n : ℕ) → b ≡ Unset → b ≡ Set n → ⊥
+not_set : (b : Option ℕ) (n : ℕ) → b ≡ None → b ≡ Some n → ⊥
 not_set b n p q = let z : ◌≡◌ {A = ℕ} 0 1 = cc in omega arith
 
 -- ---- one window: d says whether it drifts, f whether that fills the count
@@ -41,13 +41,13 @@ pub record Stepped (d f : Bool) (k : ℕ) (x : Float) (r : Drifted) : Type 0 whe
   pub streak : r.moved.state.drift_streak ≡ cond (d && not f) (k + 1) 0
   pub says : said r.moved.second ≡ cond (d && f) (event baseline-changed x) quiet
 
-module _ (n k : ℕ) (first : Judgement) (x : Float) (new old : List Float) where
-  drifting-stepped : (f : Bool) → Stepped true f k x (cond f (judging n 0 first (BaselineChanged x) new) (judging n (k + 1) first Quiet old))
+module _ (n k : ℕ) (first : Option Judgement) (x : Float) (new old : List Float) where
+  drifting-stepped : (f : Bool) → Stepped true f k x (cond f (judging n 0 first (speaks BaselineChanged x) new) (judging n (k + 1) first None old))
   drifting-stepped true = record { streak = refl; says = refl }
   drifting-stepped false = record { streak = refl; says = refl }
 
   measured-as : (w : ℕ) → 0 < w → (d : Bool)
-      → Stepped d (leb w (k + 1)) k x (cond (leb w (cond d (k + 1) 0)) (judging n 0 first (BaselineChanged x) new) (judging n (cond d (k + 1) 0) first Quiet old))
+      → Stepped d (leb w (k + 1)) k x (cond (leb w (cond d (k + 1) 0)) (judging n 0 first (speaks BaselineChanged x) new) (judging n (cond d (k + 1) 0) first None old))
   measured-as w some true = drifting-stepped (leb w (k + 1))
   measured-as w some false = rw (lt-leb w 0 some) (record { streak = refl; says = refl })
 
@@ -61,22 +61,23 @@ measured_first : (c : BaselineDriftConfig) (k : ℕ) (cur base : List Float)
     → said (measured c k cur base).moved.first ≡ cond (lt c.anomaly_threshold (distance_of cur base)) (event anomaly (over_twice (distance_of cur base) c.anomaly_threshold)) quiet
 unfolding measured weighed anomaly_if
 measured_first c k cur base =
-    either (λ (r : Drifted). said r.moved.first ≡ cond (lt c.anomaly_threshold (distance_of cur base)) (event anomaly (over_twice (distance_of cur base) c.anomaly_threshold)) quiet)
-    (leb c.drift_windows (streak_of c k (distance_of cur base))) _ _ (λ e. go (lt c.anomaly_threshold (distance_of cur base))) (λ e. go (lt c.anomaly_threshold (distance_of cur base)))
+    cond_both (leb c.drift_windows (streak_of c k (distance_of cur base))) _ _
+    (λ (r : Drifted). said r.moved.first ≡ cond (lt c.anomaly_threshold (distance_of cur base)) (event anomaly (over_twice (distance_of cur base) c.anomaly_threshold)) quiet)
+    (λ e. go (lt c.anomaly_threshold (distance_of cur base))) (λ e. go (lt c.anomaly_threshold (distance_of cur base)))
   where
-    go : (b : Bool) → said (cond b (AnomalyDetected (over_twice (distance_of cur base) c.anomaly_threshold)) Quiet) ≡ cond b (event anomaly (over_twice (distance_of cur base) c.anomaly_threshold)) quiet
+    go : (b : Bool) → said (cond b (speaks AnomalyDetected (over_twice (distance_of cur base) c.anomaly_threshold)) None) ≡ cond b (event anomaly (over_twice (distance_of cur base) c.anomaly_threshold)) quiet
     go true = refl
     go false = refl
 
 -- what holds of a window, told whether the baseline has the list's length
 by_length : (P : Bool → Drifted → Type 0) (c : BaselineDriftConfig) (s : DriftState) (l base : List Float)
-    → (s.baseline ≡ Unset → P false (begun s.drift_streak l base)) → P true (measured c s.drift_streak l base) → P false (begun 0 l base)
+    → (s.baseline ≡ None → P false (begun s.drift_streak l base)) → P true (measured c s.drift_streak l base) → P false (begun 0 l base)
     → P (holds s.baseline (length l)) (drift_move c s l base)
 by_length P c s l base none same other =
     each_way (P (holds s.baseline (length l))) c s l base
-    (λ e. subst (λ (b : Baseline). P (holds b (length l)) (begun s.drift_streak l base)) (sym e) (none e))
-    (λ n e t. subst (λ (b : Baseline). P (holds b (length l)) (measured c s.drift_streak l base)) (sym e) (subst (λ (b : Bool). P b (measured c s.drift_streak l base)) (sym t) same))
-    (λ n e t. subst (λ (b : Baseline). P (holds b (length l)) (begun 0 l base)) (sym e) (subst (λ (b : Bool). P b (begun 0 l base)) (sym t) other))
+    (λ e. subst (λ (b : Option ℕ). P (holds b (length l)) (begun s.drift_streak l base)) (sym e) (none e))
+    (λ n e t. subst (λ (b : Option ℕ). P (holds b (length l)) (measured c s.drift_streak l base)) (sym e) (subst (λ (b : Bool). P b (measured c s.drift_streak l base)) (sym t) same))
+    (λ n e t. subst (λ (b : Option ℕ). P (holds b (length l)) (begun 0 l base)) (sym e) (subst (λ (b : Bool). P b (begun 0 l base)) (sym t) other))
 
 -- one more window in a row
 one_more : (d f : Bool) (n k : ℕ) (x : Float) → (d && is_quiet (cond (d && f) (event baseline-changed x) quiet) && leb n k) ≡ leb (suc n) (cond (d && not f) (k + 1) 0)
@@ -101,11 +102,11 @@ module _ (c : BaselineDriftConfig) (ok : drift_accepted c ≡ true) (store : Lis
   below (l ∷ past) = (move_after c (drift_run c store past).moved.state l (drift_run c store past).store (below past) (settings c ok).some).below
 
   -- the baseline has the length of the newest list
-  pub set : (l : List Float) (past : List (List Float)) → (drift_run c store (l ∷ past)).moved.state.baseline ≡ Set (length l)
+  pub set : (l : List Float) (past : List (List Float)) → (drift_run c store (l ∷ past)).moved.state.baseline ≡ Some (length l)
   unfolding drift_run
   set l past = (move_after c (drift_run c store past).moved.state l (drift_run c store past).store (below past) (settings c ok).some).set
 
-  unset-zero : (past : List (List Float)) → (drift_run c store past).moved.state.baseline ≡ Unset → streak_after past ≡ 0
+  unset-zero : (past : List (List Float)) → (drift_run c store past).moved.state.baseline ≡ None → streak_after past ≡ 0
   unfolding drift_run
   unset-zero [] e = refl
   unset-zero (l ∷ past) e = absurd (not_set (drift_run c store (l ∷ past)).moved.state.baseline (length l) e (set l past))
@@ -171,16 +172,16 @@ module _ (c : BaselineDriftConfig) (ok : drift_accepted c ≡ true) (store : Lis
         sym (law.judged c (drift_run c store past).moved.state l (drift_run c store past).store (still-room past f) (in_range past f) h (drift_move c (drift_run c store past).moved.state l (drift_run c store past).store) refl)
 
     -- "first list becomes the baseline"
-    pub first-list : (l : List Float) → length l ≤ most → drift_run c store (l ∷ []) ≡ judging (length l) 0 Quiet Quiet (l ++ drop (length l) store)
+    pub first-list : (l : List Float) → length l ≤ most → drift_run c store (l ∷ []) ≡ judging (length l) 0 None None (l ++ drop (length l) store)
     unfolding drift_run drift_move
-    first-list l h = ap (judging (length l) 0 Quiet Quiet) (laid-fits l store (omega arith))
+    first-list l h = ap (judging (length l) 0 None None) (laid-fits l store (omega arith))
 
     -- "a changed length resets baseline and streak, no event"
     pub other_length : (l last : List Float) (past : List (List Float)) → length l ≤ most → Few (last ∷ past) → (length last ≡ length l → ⊥)
-        → drift_run c store (l ∷ last ∷ past) ≡ judging (length l) 0 Quiet Quiet (l ++ drop (length l) (drift_run c store (last ∷ past)).store)
+        → drift_run c store (l ∷ last ∷ past) ≡ judging (length l) 0 None None (l ++ drop (length l) (drift_run c store (last ∷ past)).store)
     unfolding drift_run
     other_length l last past h f differ =
         let base = (drift_run c store (last ∷ past)).store in
         let r : most ≤ length base = still-room (last ∷ past) f in
         sym (law.other_length c (drift_run c store (last ∷ past)).moved.state l base (begun 0 l base) (length last) (set last past) differ refl)
-        ∙ ap (judging (length l) 0 Quiet Quiet) (laid-fits l base (omega arith))
+        ∙ ap (judging (length l) 0 None None) (laid-fits l base (omega arith))

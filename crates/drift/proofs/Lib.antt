@@ -4,5 +4,6 @@ pub mod Thresholds
 pub mod Ranges
 pub mod Confidence
 pub mod History
+pub mod Promised
 pub mod Agree
 pub mod Examples

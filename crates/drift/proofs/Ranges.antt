@@ -1,4 +1,5 @@
 -- A detector in range stays in range, and the store keeps its length, whatever the list. Assumes nothing.
+use Rattle.std.specs.Prelude.{Option, Some, None}
 use mathlib.Core.Path.{◌≡◌, refl}
 use mathlib.Core.Bool.{true, false, ◌&&◌}
 use mathlib.Core.List.{List}
@@ -7,11 +8,8 @@ use borrow.Author.Tests.{le-leb, lt-ltb, leb-false, ltb-true}
 use lib.Dec.{leb, ltb, eqb}
 use lib.ListN.{length}
 use lib.Ieee.{Float}
-use Rattle.lists.proofs.Tests.{and2}
-use Rattle.rvcsi_core.proofs.Tested.{either}
+use Rattle.std.proofs.lemmas.Bool.{and_parts, cond_both}
 use Rattle.drift.specs.declared.BaselineDriftConfig.{BaselineDriftConfig}
-use Rattle.drift.specs.declared.Baseline.{Baseline}
-use Rattle.drift.specs.declared.Baseline.TheVariants.{Unset, Set}
 use Rattle.drift.specs.declared.DriftState.{DriftState}
 use Rattle.drift.specs.Settings.{drift_accepted, drift_fresh}
 use Rattle.drift.specs.Drift.{most, length_ok, drift_in, Drifted, begun, smoothed, streak_of, weighed, measured, from, drift_move}
@@ -20,26 +18,26 @@ use Rattle.drift.proofs.Thresholds.{settings}
 
 -- what holds of each of the three ways a window can go holds of the window
 pub each_way : (P : Drifted → Type 0) (c : BaselineDriftConfig) (s : DriftState) (cur base : List Float)
-    → (s.baseline ≡ Unset → P (begun s.drift_streak cur base))
-    → ((n : ℕ) → s.baseline ≡ Set n → eqb n (length cur) ≡ true → P (measured c s.drift_streak cur base))
-    → ((n : ℕ) → s.baseline ≡ Set n → eqb n (length cur) ≡ false → P (begun 0 cur base))
+    → (s.baseline ≡ None → P (begun s.drift_streak cur base))
+    → ((n : ℕ) → s.baseline ≡ Some n → eqb n (length cur) ≡ true → P (measured c s.drift_streak cur base))
+    → ((n : ℕ) → s.baseline ≡ Some n → eqb n (length cur) ≡ false → P (begun 0 cur base))
     → P (drift_move c s cur base)
 unfolding drift_move
 each_way P c s cur base p q r = go s.baseline p q r
   where
-    go : (b : Baseline) → (b ≡ Unset → P (begun s.drift_streak cur base))
-        → ((n : ℕ) → b ≡ Set n → eqb n (length cur) ≡ true → P (measured c s.drift_streak cur base))
-        → ((n : ℕ) → b ≡ Set n → eqb n (length cur) ≡ false → P (begun 0 cur base))
+    go : (b : Option ℕ) → (b ≡ None → P (begun s.drift_streak cur base))
+        → ((n : ℕ) → b ≡ Some n → eqb n (length cur) ≡ true → P (measured c s.drift_streak cur base))
+        → ((n : ℕ) → b ≡ Some n → eqb n (length cur) ≡ false → P (begun 0 cur base))
         → P (from b c s.drift_streak cur base)
-    go Unset p q r = p refl
-    go (Set n) p q r = either P (eqb n (length cur)) (measured c s.drift_streak cur base) (begun 0 cur base) (q n refl) (r n refl)
+    go None p q r = p refl
+    go (Some n) p q r = cond_both (eqb n (length cur)) (measured c s.drift_streak cur base) (begun 0 cur base) P (q n refl) (r n refl)
 
 -- ---- the store's length
 
 weighed_length : (c : BaselineDriftConfig) (k : ℕ) (d : Float) (cur base : List Float) → length cur ≤ length base → length (weighed c k d cur base).store ≡ length base
 unfolding weighed
 weighed_length c k d cur base h =
-    either (λ (r : Drifted). length r.store ≡ length base) (leb c.drift_windows (streak_of c k d)) _ _
+    cond_both (leb c.drift_windows (streak_of c k d)) _ _ (λ (r : Drifted). length r.store ≡ length base)
     (λ e. length-laid cur base) (λ e. length-tab-over (smoothed c.ewma_alpha cur base) (length cur) base h)
 
 pub move_length : (c : BaselineDriftConfig) (s : DriftState) (cur base : List Float) → length cur ≤ length base → length (drift_move c s cur base).store ≡ length base
@@ -52,13 +50,13 @@ move_length c s cur base h =
 
 -- a state that holds a list of n and a streak below its count
 pub record After (c : BaselineDriftConfig) (n : ℕ) (s : DriftState) : Type 0 where
-  pub set : s.baseline ≡ Set n
+  pub set : s.baseline ≡ Some n
   pub below : s.drift_streak < c.drift_windows
 
 weighed_after : (c : BaselineDriftConfig) (k : ℕ) (d : Float) (cur base : List Float) → 0 < c.drift_windows → After c (length cur) (weighed c k d cur base).moved.state
 unfolding weighed
 weighed_after c k d cur base some =
-    either (λ (r : Drifted). After c (length cur) r.moved.state) (leb c.drift_windows (streak_of c k d)) _ _
+    cond_both (leb c.drift_windows (streak_of c k d)) _ _ (λ (r : Drifted). After c (length cur) r.moved.state)
     (λ e. record { set = refl; below = some }) (λ e. record { set = refl; below = leb-false _ _ e })
 
 pub move_after : (c : BaselineDriftConfig) (s : DriftState) (cur base : List Float) → s.drift_streak < c.drift_windows → 0 < c.drift_windows → After c (length cur) (drift_move c s cur base).moved.state
@@ -79,6 +77,6 @@ drift_begins c ok = rw (ok, lt-ltb 0 c.drift_windows (settings c ok).some)
 pub drift_stays : (c : BaselineDriftConfig) (s : DriftState) (cur base : List Float) → length cur ≤ most → drift_in c s ≡ true → drift_in c (drift_move c s cur base).moved.state ≡ true
 unfolding drift_in
 drift_stays c s cur base few h =
-    let a = and2 (drift_accepted c && length_ok s.baseline) (ltb s.drift_streak c.drift_windows) h in
-    let ok = (and2 (drift_accepted c) (length_ok s.baseline) a.0).0 in
+    let a = and_parts (drift_accepted c && length_ok s.baseline) (ltb s.drift_streak c.drift_windows) h in
+    let ok = (and_parts (drift_accepted c) (length_ok s.baseline) a.0).0 in
     after_in c (length cur) (drift_move c s cur base).moved.state ok few (move_after c s cur base (ltb-true _ _ a.1) (settings c ok).some)

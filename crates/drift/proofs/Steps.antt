@@ -1,4 +1,5 @@
 -- What the code does, step by step, makes the definitions. Assumes nothing.
+use Rattle.std.specs.Prelude.{Option, Some, None}
 use Prim.Native.Nat.{ℕ, ◌≤◌, ◌<◌, min}
 use mathlib.Core.Path.{◌≡◌}
 use mathlib.Core.Bool.{true, false, ◌&&◌}
@@ -12,16 +13,15 @@ use lib.Ieee.{Float, binary32, binary64, div, of_int, le, of_bits}
 use Rattle.floats.specs.Clamp.{zero32}
 use Rattle.floats.specs.Convert.{convert}
 use Rattle.floats.specs.Sqrt.{sqrt}
-use Rattle.lists.proofs.Tests.{and2}
+use Rattle.std.proofs.lemmas.Bool.{and_parts}
 use Rattle.lists.specs.Fold.{sum_to}
 use Rattle.lists.specs.Squares.{square_at, away_at}
 use Rattle.lists.specs.Laid.{laid}
 use Rattle.detectors.specs.Common.{over_twice}
-use Rattle.detectors.specs.Answers.{taken, refusal}
+use Rattle.detectors.specs.Answers.{speaks, taken, refusal}
 use Rattle.detectors.specs.declared.Judgement.{Judgement}
-use Rattle.detectors.specs.declared.Judgement.TheVariants.{Quiet, BaselineChanged}
+use Rattle.rvcsi_core.specs.declared.event.CsiEventKind.TheVariants.{BaselineChanged}
 use Rattle.drift.specs.declared.BaselineDriftConfig.{BaselineDriftConfig}
-use Rattle.drift.specs.declared.Baseline.TheVariants.{Unset, Set}
 use Rattle.drift.specs.declared.DriftState.{DriftState}
 use Rattle.drift.specs.Settings.{drift_accepted}
 use Rattle.drift.specs.Distance.{root_mean, relative_to, distance_of}
@@ -43,23 +43,23 @@ module _ (cur base : List Float) where
 
 -- ---- one window
 
-module _ (c : BaselineDriftConfig) (k : ℕ) (cur base l : List Float) (d : Float) (first : Judgement) (next : ℕ)
+module _ (c : BaselineDriftConfig) (k : ℕ) (cur base l : List Float) (d : Float) (first : Option Judgement) (next : ℕ)
     (is-d : d ≡ distance_of cur base) (is-first : first ≡ anomaly_if c d) (is-next : next ≡ streak_of c k d) where
   pub at_count : c.drift_windows ≤ next → (x : Float) → x ≡ over_twice d c.drift_threshold → l ≡ laid cur base
-      → judging (length cur) 0 first (BaselineChanged x) l ≡ measured c k cur base
+      → judging (length cur) 0 first (speaks BaselineChanged x) l ≡ measured c k cur base
   unfolding measured weighed
   at_count h x e g = rw (← is-d, ← is-next, le-leb _ _ h, is-first, e, g)
 
-  pub follows : next < c.drift_windows → l ≡ ewma c.ewma_alpha cur base → judging (length cur) next first Quiet l ≡ measured c k cur base
+  pub follows : next < c.drift_windows → l ≡ ewma c.ewma_alpha cur base → judging (length cur) next first None l ≡ measured c k cur base
   unfolding measured weighed
   follows h g = rw (← is-d, ← is-next, lt-leb _ _ h, is-first, g)
 
 module _ (c : BaselineDriftConfig) (s : DriftState) (cur base : List Float) (r : Drifted) where
-  pub first-list : s.baseline ≡ Unset → r ≡ begun s.drift_streak cur base → r ≡ drift_move c s cur base
+  pub first-list : s.baseline ≡ None → r ≡ begun s.drift_streak cur base → r ≡ drift_move c s cur base
   unfolding drift_move
   first-list e h = rw e h
 
-  module _ (n : ℕ) (e : s.baseline ≡ Set n) where
+  module _ (n : ℕ) (e : s.baseline ≡ Some n) where
     pub same_length : n ≡ length cur → r ≡ measured c s.drift_streak cur base → r ≡ drift_move c s cur base
     unfolding drift_move
     same_length g h = rw (e, eq-eqb n (length cur) g) h
@@ -72,7 +72,7 @@ module _ (c : BaselineDriftConfig) (s : DriftState) (cur base : List Float) (r :
 
 pub below_count : (c : BaselineDriftConfig) (s : DriftState) → drift_in c s ≡ true → s.drift_streak < c.drift_windows
 unfolding drift_in
-below_count c s e = ltb-true _ _ (and2 (drift_accepted c && length_ok s.baseline) (ltb s.drift_streak c.drift_windows) e).1
+below_count c s e = ltb-true _ _ (and_parts (drift_accepted c && length_ok s.baseline) (ltb s.drift_streak c.drift_windows) e).1
 
 -- a state in range can be stepped
 pub driving : (c : BaselineDriftConfig) (s : DriftState) (n m : ℕ) → drift_in c s ≡ true → n ≤ most → most ≤ m → Driving c s.drift_streak n m

@@ -7,7 +7,8 @@ use lib.Dec.{T, leb}
 use lib.Ieee.{Float, le, lt}
 use Rattle.floats.specs.Clamp.{zero32, one32}
 use Rattle.rvcsi_core.specs.Settings.{million, threshold_ok}
-use Rattle.rvcsi_core.proofs.Tested.{holds, parts}
+use Rattle.rvcsi_core.proofs.Tested.{parts}
+use Rattle.std.proofs.lemmas.Float.{T_from_true}
 use Rattle.detectors.specs.Common.{limits_ok}
 use Rattle.drift.specs.declared.BaselineDriftConfig.{BaselineDriftConfig}
 use Rattle.drift.specs.Settings.{drift_accepted}
@@ -26,7 +27,7 @@ pub record Threshold (t : Float) : Type 0 where
 
 threshold : (t : Float) → threshold_ok t ≡ true → Threshold t
 unfolding threshold_ok
-threshold t h = let p = parts (le zero32 t) (le t million) (holds h) in record { least = p.0; most = p.1 }
+threshold t h = let p = parts (le zero32 t) (le t million) (T_from_true _ h) in record { least = p.0; most = p.1 }
 
 pub record Settings (c : BaselineDriftConfig) : Type 0 where
   pub drift : Threshold c.drift_threshold

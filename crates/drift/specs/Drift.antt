@@ -1,21 +1,20 @@
 -- One window of the drift detector. The baseline stands in a lent store from place 0; other places stay.
-use Rattle.std.specs.Prelude.{Bool, true, ◌&&◌, cond, List, [], ◌∷◌, ◌++◌, ℕ, ◌+◌, ◌≤◌, ◌<◌, leb, ltb, eqb, length, get_or, drop, Float}
+use Rattle.std.specs.Prelude.{Bool, true, ◌&&◌, cond, List, [], ◌∷◌, ◌++◌, ℕ, ◌+◌, ◌≤◌, ◌<◌, leb, ltb, eqb, length, get_or, drop, Float, Option, Some, None, Result, Ok, Err}
 use Rattle.std.specs.Float.{nan, binary32}
 use Rattle.std.specs.Float.Ieee.{lt, add, sub, mul}
 use Rattle.floats.specs.Clamp.{one32}
 use Rattle.lists.specs.Tab.{tab}
 use Rattle.lists.specs.Laid.{laid}
 use Rattle.detectors.specs.Common.{over_twice}
-use Rattle.detectors.specs.Answers.{said, Result, Answer, taken, refusal, unless}
+use Rattle.detectors.specs.Answers as detector
+use Rattle.detectors.specs.Answers.{speaks, said, Answer, taken, refusal, unless}
 use Rattle.detectors.specs.declared.Judgement.{Judgement}
-use Rattle.detectors.specs.declared.Judgement.TheVariants.{Quiet, BaselineChanged, AnomalyDetected}
+use Rattle.rvcsi_core.specs.declared.event.CsiEventKind.TheVariants.{AnomalyDetected, BaselineChanged}
 use Rattle.drift.specs.declared.BaselineDriftConfig.{BaselineDriftConfig}
-use Rattle.drift.specs.declared.Baseline.{Baseline}
-use Rattle.drift.specs.declared.Baseline.TheVariants.{Unset, Set}
 use Rattle.drift.specs.declared.DriftState.{DriftState}
-use Rattle.drift.specs.declared.DriftMoved.{DriftMoved}
-use Rattle.drift.specs.declared.DriftReply.{DriftReply}
-use Rattle.drift.specs.declared.DriftReply.TheVariants.{Judged, StoreShort, OutOfRange, TooLong}
+use Rattle.detectors.specs.declared.Moved.{Moved}
+use Rattle.drift.specs.declared.DriftRefusal.{DriftRefusal}
+use Rattle.drift.specs.declared.DriftRefusal.TheVariants.{StoreShort, OutOfRange, TooLong}
 use Rattle.drift.specs.Settings.{drift_accepted}
 use Rattle.drift.specs.Distance.{distance_of}
 
@@ -24,9 +23,9 @@ abbrev pub most : ℕ
 most = 256
 
 -- "State out of range: .. baseline length above 256"
-abbrev pub length_ok : Baseline → Bool
-length_ok Unset = true
-length_ok (Set n) = leb n most
+abbrev pub length_ok : Option ℕ → Bool
+length_ok None = true
+length_ok (Some n) = leb n most
 
 -- "State out of range: settings that 1 refuses; .. drift streak not below its count"
 unfoldable pub drift_in : BaselineDriftConfig → DriftState → Bool
@@ -34,21 +33,21 @@ drift_in c s = drift_accepted c && length_ok s.baseline && ltb s.drift_streak c.
 
 -- all that a window leaves: the new state with its two judgements, and the store
 pub record Drifted : Type 0 where
-  pub moved : DriftMoved
+  pub moved : Moved DriftState
   pub store : List Float
 
 -- a baseline of n values in the store, a streak of k, and what is said
-abbrev pub judging : ℕ → ℕ → Judgement → Judgement → List Float → Drifted
+abbrev pub judging : ℕ → ℕ → Option Judgement → Option Judgement → List Float → Drifted
 judging n k first second store =
-    record { moved = record { state = record { baseline = Set n; drift_streak = k }; first = first; second = second }; store = store }
+    record { moved = record { state = record { baseline = Some n; drift_streak = k }; first = first; second = second }; store = store }
 
 -- the list becomes the baseline, and nothing is said
 abbrev pub begun : ℕ → List Float → List Float → Drifted
-begun k cur store = judging (length cur) k Quiet Quiet (laid cur store)
+begun k cur store = judging (length cur) k None None (laid cur store)
 
 -- "Above anomaly: event"
-unfoldable pub anomaly_if : BaselineDriftConfig → Float → Judgement
-anomaly_if c d = cond (lt c.anomaly_threshold d) (AnomalyDetected (over_twice d c.anomaly_threshold)) Quiet
+unfoldable pub anomaly_if : BaselineDriftConfig → Float → Option Judgement
+anomaly_if c d = cond (lt c.anomaly_threshold d) (speaks AnomalyDetected (over_twice d c.anomaly_threshold)) None
 
 -- "Above drift: streak"
 unfoldable pub streak_of : BaselineDriftConfig → ℕ → Float → ℕ
@@ -68,17 +67,17 @@ unfoldable pub weighed : BaselineDriftConfig → ℕ → Float → List Float �
 weighed c k d cur store =
     let next = streak_of c k d in
     cond (leb c.drift_windows next)
-    (judging (length cur) 0 (anomaly_if c d) (BaselineChanged (over_twice d c.drift_threshold)) (laid cur store))
-    (judging (length cur) next (anomaly_if c d) Quiet (ewma c.ewma_alpha cur store))
+    (judging (length cur) 0 (anomaly_if c d) (speaks BaselineChanged (over_twice d c.drift_threshold)) (laid cur store))
+    (judging (length cur) next (anomaly_if c d) None (ewma c.ewma_alpha cur store))
 
 -- the distance is taken before the baseline moves
 unfoldable pub measured : BaselineDriftConfig → ℕ → List Float → List Float → Drifted
 measured c k cur store = weighed c k (distance_of cur store) cur store
 
 -- "first list becomes the baseline. A changed length resets baseline and streak, no event"
-abbrev pub from : Baseline → BaselineDriftConfig → ℕ → List Float → List Float → Drifted
-from Unset c k cur store = begun k cur store
-from (Set n) c k cur store = cond (eqb n (length cur)) (measured c k cur store) (begun 0 cur store)
+abbrev pub from : Option ℕ → BaselineDriftConfig → ℕ → List Float → List Float → Drifted
+from None c k cur store = begun k cur store
+from (Some n) c k cur store = cond (eqb n (length cur)) (measured c k cur store) (begun 0 cur store)
 
 unfoldable pub drift_move : BaselineDriftConfig → DriftState → List Float → List Float → Drifted
 drift_move c s cur store = from s.baseline c s.drift_streak cur store
@@ -92,12 +91,12 @@ pub record Driving (c : BaselineDriftConfig) (k n m : ℕ) : Type 0 where
 -- ---- on paper
 
 -- an anomaly first, then a changed baseline
-abbrev pub result : DriftMoved → Result DriftState
+abbrev pub result : Moved DriftState → detector.Result DriftState
 result m = record { state = m.state; judgements = said m.first ∷ said m.second ∷ [] }
 
 -- the reply, and the store after it
 pub record Outcome : Type 0 where
-  pub reply : Answer (Result DriftState)
+  pub reply : Answer (detector.Result DriftState)
   pub store : List Float
 
 -- a refusal leaves the store as it was
@@ -114,8 +113,12 @@ drift_step c s cur store =
     (unless (leb (length cur) most) 5
     (taken (drift_move c s cur store)))))
 
-abbrev pub paper : DriftReply → Answer (Result DriftState)
-paper (Judged s j k) = taken (record { state = s; judgements = said j ∷ said k ∷ [] })
-paper StoreShort = refusal 13
-paper OutOfRange = refusal 14
-paper TooLong = refusal 5
+-- the state after a window with what is said, or a refusal
+abbrev pub Reply : Type 0
+Reply = Result (Moved DriftState) DriftRefusal
+
+abbrev pub paper : Reply → Answer (detector.Result DriftState)
+paper (Ok m) = taken (result m)
+paper (Err StoreShort) = refusal 13
+paper (Err OutOfRange) = refusal 14
+paper (Err TooLong) = refusal 5

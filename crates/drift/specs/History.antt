@@ -1,11 +1,8 @@
 -- Histories: mean lists from fresh over one store, newest first.
-use Rattle.std.specs.Prelude.{Bool, true, false, ◌&&◌, List, [], ◌∷◌, ℕ, zero, suc, ◌≤◌, eqb, length, Float}
+use Rattle.std.specs.Prelude.{Bool, true, false, ◌&&◌, List, [], ◌∷◌, ℕ, zero, suc, ◌≤◌, eqb, length, Float, Option, Some, None}
 use Rattle.std.specs.Float.Ieee.{lt}
 use Rattle.detectors.specs.Answers.{Said, said, quiet, event}
-use Rattle.detectors.specs.declared.Judgement.TheVariants.{Quiet}
 use Rattle.drift.specs.declared.BaselineDriftConfig.{BaselineDriftConfig}
-use Rattle.drift.specs.declared.Baseline.{Baseline}
-use Rattle.drift.specs.declared.Baseline.TheVariants.{Unset, Set}
 use Rattle.drift.specs.Settings.{drift_fresh}
 use Rattle.drift.specs.Distance.{distance_of}
 use Rattle.drift.specs.Drift.{most, Drifted, drift_move}
@@ -17,7 +14,7 @@ Few (l ∷ past) = (length l ≤ most) × Few past
 
 -- The detector after a history over a store: its state and store, and what it said of the newest list
 unfoldable pub drift_run : BaselineDriftConfig → List Float → List (List Float) → Drifted
-drift_run c store [] = record { moved = record { state = drift_fresh; first = Quiet; second = Quiet }; store = store }
+drift_run c store [] = record { moved = record { state = drift_fresh; first = None; second = None }; store = store }
 drift_run c store (l ∷ past) = drift_move c (drift_run c store past).moved.state l (drift_run c store past).store
 
 abbrev pub first_says : BaselineDriftConfig → List Float → List (List Float) → Said
@@ -27,9 +24,9 @@ abbrev pub second_says : BaselineDriftConfig → List Float → List (List Float
 second_says c store past = said (drift_run c store past).moved.second
 
 -- a baseline of n values
-abbrev pub holds : Baseline → ℕ → Bool
-holds Unset n = false
-holds (Set m) n = eqb m n
+abbrev pub holds : Option ℕ → ℕ → Bool
+holds None n = false
+holds (Some m) n = eqb m n
 
 -- the newest list had its baseline's length, and its distance was above t
 unfoldable pub farther : Float → BaselineDriftConfig → List Float → List (List Float) → Bool

@@ -1,15 +1,13 @@
 -- The settings of the drift detector, and making one.
-use Rattle.std.specs.Prelude.{Bool, ◌&&◌, leb}
+use Rattle.std.specs.Prelude.{Bool, ◌&&◌, leb, None}
 use Rattle.std.specs.Float.{binary32}
 use Rattle.std.specs.Float.Ieee.{of_bits, le, lt}
 use Rattle.floats.specs.Clamp.{zero32, one32}
 use Rattle.detectors.specs.Common.{limits_ok}
-use Rattle.detectors.specs.Answers.{Answer, taken, refusal, unless}
+use Rattle.detectors.specs.Answers.{Answer, taken, unless}
 use Rattle.drift.specs.declared.BaselineDriftConfig.{BaselineDriftConfig}
-use Rattle.drift.specs.declared.Baseline.TheVariants.{Unset}
 use Rattle.drift.specs.declared.DriftState.{DriftState}
-use Rattle.drift.specs.declared.DriftMade.{DriftMade}
-use Rattle.drift.specs.declared.DriftMade.TheVariants.{Fresh, NotAccepted}
+use Rattle.detectors.specs.Replies.{Made, on_paper_made}
 
 -- "drift 0.15, 3 windows, anomaly 1.0, alpha 0.1"
 abbrev pub drift_default : BaselineDriftConfig
@@ -25,7 +23,7 @@ drift_accepted c =
     && le c.ewma_alpha one32
 
 abbrev pub drift_fresh : DriftState
-drift_fresh = record { baseline = Unset; drift_streak = 0 }
+drift_fresh = record { baseline = None; drift_streak = 0 }
 
 -- ---- on paper
 
@@ -33,6 +31,5 @@ drift_fresh = record { baseline = Unset; drift_streak = 0 }
 unfoldable pub drift_new : BaselineDriftConfig → Answer DriftState
 drift_new c = unless (drift_accepted c) 1 (taken drift_fresh)
 
-abbrev pub paper_made : DriftMade → Answer DriftState
-paper_made (Fresh s) = taken s
-paper_made NotAccepted = refusal 1
+abbrev pub paper_made : Made DriftState → Answer DriftState
+paper_made r = on_paper_made r

@@ -6,11 +6,11 @@ ghost use Rattle.std.specs.Float.{binary32, binary64};
 ghost use Rattle.std.specs.Float.Ieee.{div};
 ghost use Rattle.floats.specs.Sqrt.{sqrt};
 ghost use Rattle.floats.specs.Convert.{convert};
-ghost use Rattle.drift.specs.Settings.{drift_default, drift_accepted, paper_made, drift_new};
 ghost use Rattle.drift.specs.Distance.{relative_to, distance_of};
-ghost use Rattle.drift.specs.Drift.{most, length_ok, drift_in, anomaly_if, streak_of, ewma, Driving, begun, measured, drift_move, paper, drift_step};
+ghost use Rattle.drift.specs.Drift.{most, length_ok, anomaly_if, streak_of, ewma, Driving, begun, measured, drift_move, paper, drift_step};
 
-use detectors::Judgement;
+use detectors::{Judgement, Moved, Settings};
+use rvcsi_core::event::CsiEventKind;
 
 // The places that a baseline store has, and the most values of a list.
 const MOST: usize = 256;
@@ -26,108 +26,77 @@ pub struct BaselineDriftConfig {
     pub ewma_alpha: f32,
 }
 
-// The baseline's length, once there is one.
-#[derive(Clone, Copy)]
-pub enum Baseline {
-    Unset,
-    Set(usize),
-}
-
+// The baseline's length, once there is one, and how many windows in a row drifted. There is no heap: its values stand in the lent store.
 #[derive(Clone, Copy)]
 pub struct DriftState {
-    pub baseline: Baseline,
+    pub baseline: Option<usize>,
     pub drift_streak: u32,
 }
 
-// The state after a window, and what is said of it: an anomaly first, then a changed baseline.
-#[derive(Clone, Copy)]
-pub struct DriftMoved {
-    pub state: DriftState,
-    pub first: Judgement,
-    pub second: Judgement,
-}
-
-// Reply 0 with the fresh state, or 1.
-#[derive(Clone, Copy)]
-pub enum DriftMade {
-    Fresh(DriftState),
-    NotAccepted,
-}
-
-// Reply 0 with the state after the window and the two judgements, or 13, 14, 5.
-#[derive(Clone, Copy)]
-pub enum DriftReply {
-    Judged(DriftState, Judgement, Judgement),
+// Reply 13, 14 or 5.
+#[derive(Clone, Copy, Debug, PartialEq, Eq)]
+pub enum DriftRefusal {
     StoreShort,
     OutOfRange,
     TooLong,
 }
 
-// Settings.
+// ---- settings
 
-pub fn default() -> BaselineDriftConfig
-    ensures { result ≡ drift_default }
-{
-    BaselineDriftConfig {
-        drift_threshold: 0.15,
-        drift_windows: 3,
-        anomaly_threshold: 1.0,
-        ewma_alpha: 0.1,
+impl Default for BaselineDriftConfig {
+    ghost use Rattle.drift.specs.Settings.{drift_default};
+
+    ghost is_default = { λ c. c ≡ drift_default };
+
+    fn default() -> BaselineDriftConfig {
+        BaselineDriftConfig {
+            drift_threshold: 0.15,
+            drift_windows: 3,
+            anomaly_threshold: 1.0,
+            ewma_alpha: 0.1,
+        }
     }
 }
 
-pub fn accepted(c: BaselineDriftConfig) -> bool
-    ensures { result ≡ drift_accepted c }
-{
-    if !detectors::limits_ok(c.anomaly_threshold, c.drift_threshold) {
-        return false;
+impl Settings for BaselineDriftConfig {
+    type State = DriftState;
+
+    ghost use Rattle.drift.specs.Settings.{drift_accepted, drift_fresh};
+    ghost use Rattle.drift.specs.Drift.{drift_in};
+
+    ghost accepts = { drift_accepted };
+
+    ghost begins = { drift_fresh };
+
+    ghost ranges = { drift_in };
+
+    fn accepted(self) -> bool {
+        detectors::limits_ok(self.anomaly_threshold, self.drift_threshold)
+            && 1 <= self.drift_windows
+            && self.ewma_alpha > 0.0
+            && self.ewma_alpha <= 1.0
     }
-    if c.drift_windows < 1 {
-        return false;
+
+    // No baseline yet.
+    fn fresh() -> DriftState {
+        DriftState {
+            baseline: None,
+            drift_streak: 0,
+        }
     }
-    if !(c.ewma_alpha > 0.0) {
-        return false;
+
+    fn in_range(self, s: DriftState) -> bool {
+        self.accepted() && length_ok(s.baseline) && s.drift_streak < self.drift_windows
     }
-    c.ewma_alpha <= 1.0
 }
 
-// A detector with these settings, no baseline yet.
-pub fn with_config(c: BaselineDriftConfig) -> DriftMade
-    ensures { paper_made result ≡ drift_new c }
-{
-    if !accepted(c) {
-        return DriftMade::NotAccepted;
-    }
-    DriftMade::Fresh(DriftState {
-        baseline: Baseline::Unset,
-        drift_streak: 0,
-    })
-}
-
-fn length_ok(b: Baseline) -> bool
+fn length_ok(b: Option<usize>) -> bool
     ensures { result ≡ length_ok b }
 {
-    match b {
-        Baseline::Unset => true,
-        Baseline::Set(n) => n <= MOST,
-    }
+    b.is_none_or(|n| n <= MOST)
 }
 
-// Is the state in range?
-pub fn in_range(c: BaselineDriftConfig, s: DriftState) -> bool
-    ensures { result ≡ drift_in c s }
-{
-    if !accepted(c) {
-        return false;
-    }
-    let b = s.baseline;
-    if !length_ok(b) {
-        return false;
-    }
-    s.drift_streak < c.drift_windows
-}
-
-// Distance.
+// ---- distance
 
 // The root of a sum of squares over the root of their count.
 fn root_over(sum: f64, by: f64) -> f32
@@ -159,27 +128,28 @@ fn relative_drift(current: &[f32], baseline: &[f32]) -> f32
     relative(size, distance)
 }
 
-// One window.
+// ---- one window
 
-// Each baseline value becomes a * current + (1 - a) * old.
+// Each baseline value becomes a * current + (1 - a) * old. By place: of values written through `iter_mut().zip(..)` nothing is proved afterwards.
 fn update_ewma(a: f32, current: &[f32], baseline: &mut [f32])
     requires { length current.now ≤ length baseline.old }
     ensures { baseline.new ≡ ewma a current.now baseline.old }
 {
-    let mut k = 0usize;
-    while k < current.len() {
-        baseline[k] = a * current[k] + (1.0 - a) * baseline[k];
-        k += 1;
+    for (k, x) in current.iter().enumerate() {
+        baseline[k] = a * *x + (1.0 - a) * baseline[k];
     }
 }
 
-fn anomaly_if(c: BaselineDriftConfig, d: f32) -> Judgement
+fn anomaly_if(c: BaselineDriftConfig, d: f32) -> Option<Judgement>
     ensures { result ≡ anomaly_if c d }
 {
     if d > c.anomaly_threshold {
-        return Judgement::AnomalyDetected(detectors::over_twice(d, c.anomaly_threshold));
+        return Some(Judgement {
+            kind: CsiEventKind::AnomalyDetected,
+            confidence: detectors::over_twice(d, c.anomaly_threshold),
+        });
     }
-    Judgement::Quiet
+    None
 }
 
 fn streak_of(c: BaselineDriftConfig, streak: u32, d: f32) -> u32
@@ -193,7 +163,12 @@ fn streak_of(c: BaselineDriftConfig, streak: u32, d: f32) -> u32
 }
 
 // The list against a baseline of its own length: measured first, then the baseline moves.
-fn measure(c: BaselineDriftConfig, streak: u32, current: &[f32], baseline: &mut [f32]) -> DriftMoved
+fn measure(
+    c: BaselineDriftConfig,
+    streak: u32,
+    current: &[f32],
+    baseline: &mut [f32],
+) -> Moved<DriftState>
     requires { Driving c streak (length current.now) (length baseline.old) }
     ensures { record { moved = result; store = baseline.new } ≡ measured c streak current.now baseline.old }
 {
@@ -203,49 +178,56 @@ fn measure(c: BaselineDriftConfig, streak: u32, current: &[f32], baseline: &mut 
     let next = streak_of(c, streak, d);
     if next >= c.drift_windows {
         lists::copy_over(current, baseline);
-        return DriftMoved {
+        return Moved {
             state: DriftState {
-                baseline: Baseline::Set(n),
+                baseline: Some(n),
                 drift_streak: 0,
             },
             first,
-            second: Judgement::BaselineChanged(detectors::over_twice(d, c.drift_threshold)),
+            second: Some(Judgement {
+                kind: CsiEventKind::BaselineChanged,
+                confidence: detectors::over_twice(d, c.drift_threshold),
+            }),
         };
     }
     update_ewma(c.ewma_alpha, current, baseline);
-    DriftMoved {
+    Moved {
         state: DriftState {
-            baseline: Baseline::Set(n),
+            baseline: Some(n),
             drift_streak: next,
         },
         first,
-        second: Judgement::Quiet,
+        second: None,
     }
 }
 
 // The list becomes the baseline, and nothing is said.
-fn begin(streak: u32, current: &[f32], baseline: &mut [f32]) -> DriftMoved
+fn begin(streak: u32, current: &[f32], baseline: &mut [f32]) -> Moved<DriftState>
     ensures { record { moved = result; store = baseline.new } ≡ begun streak current.now baseline.old }
 {
     let n = current.len();
     lists::copy_over(current, baseline);
-    DriftMoved {
+    Moved {
         state: DriftState {
-            baseline: Baseline::Set(n),
+            baseline: Some(n),
             drift_streak: streak,
         },
-        first: Judgement::Quiet,
-        second: Judgement::Quiet,
+        first: None,
+        second: None,
     }
 }
 
-// One window that no reply refuses.
-fn moved(c: BaselineDriftConfig, s: DriftState, current: &[f32], baseline: &mut [f32]) -> DriftMoved
+// One window that no reply refuses. Not `Scored`, which goes by a number: this goes by a list and writes a lent store.
+fn moved(
+    c: BaselineDriftConfig,
+    s: DriftState,
+    current: &[f32],
+    baseline: &mut [f32],
+) -> Moved<DriftState>
     requires { Driving c s.drift_streak (length current.now) (length baseline.old) }
     ensures { record { moved = result; store = baseline.new } ≡ drift_move c s current.now baseline.old }
 {
-    let b = s.baseline;
-    let Baseline::Set(n) = b else {
+    let Some(n) = s.baseline else {
         return begin(s.drift_streak, current, baseline);
     };
     if n == current.len() {
@@ -260,21 +242,17 @@ pub fn on_window(
     s: DriftState,
     current: &[f32],
     baseline: &mut [f32],
-) -> DriftReply
+) -> Result<Moved<DriftState>, DriftRefusal>
     ensures { record { reply = paper result; store = baseline.new } ≡ drift_step c s current.now baseline.old }
 {
     if baseline.len() < MOST {
-        return DriftReply::StoreShort;
+        return Err(DriftRefusal::StoreShort);
     }
-    if !in_range(c, s) {
-        return DriftReply::OutOfRange;
+    if !c.in_range(s) {
+        return Err(DriftRefusal::OutOfRange);
     }
     if current.len() > MOST {
-        return DriftReply::TooLong;
+        return Err(DriftRefusal::TooLong);
     }
-    let m = moved(c, s, current, baseline);
-    let state = m.state;
-    let first = m.first;
-    let second = m.second;
-    DriftReply::Judged(state, first, second)
+    Ok(moved(c, s, current, baseline))
 }

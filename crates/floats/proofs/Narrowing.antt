@@ -87,9 +87,6 @@ tiny m M F = record { says = λ s. ends s; small = lit≤ tt }
 closest_le : (g h p : ℕ) → g < 2 ^ (p + h) → closest g (2 ^ h) ≤ 2 ^ p
 closest_le g h p G = le_trans (nearest-le (g / 2 ^ h) (compare (g % 2 ^ h * 2) (2 ^ h))) (lib.Pow.shr_lt p h G)
 
-pub kept_le : (m : ℕ) → closest (lead m) (2 ^ 29) ≤ 2 ^ 24
-kept_le m = closest_le (lead m) 29 24 (lead_lt m)
-
 -- ---- subnormal results, and the largest of them rounded up
 pub subnormal : (m : ℕ) → m ≤ 9218868437227405312 → 872 ≤ field m → field m < 897 → Narrowed m (closest (lead m) (2 ^ (926 - field m)))
 subnormal m M L F = record { says = λ s. ends s; small = le_trans bound (lit≤ tt) }

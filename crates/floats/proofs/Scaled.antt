@@ -1,7 +1,8 @@
 -- `root_scaled`: how far its radicand is shifted, that the digits of the root are 54, and the pattern that it makes of them. Assumes nothing.
-use Rattle.std.proofs.Common.{◌≡◌, ℕ, suc, ◌+◌, ◌-◌, ◌*◌, ◌/◌, ◌%◌, ◌^◌, ◌<◌, ◌≤◌, Bool, true, false, T, eqb, sym, ap, ◌∙◌, subst, inr, le_trans, le_of_eq, lt_of_lt_of_le, lt_of_le_of_lt, lt_irrefl, mul-le-mul_right, zero-lt-suc, mul_assoc, mul_comm, mul-lt-mul_of_pos_right, lt_of_not-le, le-div_iff_mul-le, zero-add, arith, lit≤, eqb→eq, pow_pos, pow_mono, pow-add, shl_lt, shl_exact, shr_lt}
+use Rattle.std.proofs.Common.{◌≡◌, ℕ, suc, ◌+◌, ◌-◌, ◌*◌, ◌/◌, ◌%◌, ◌^◌, ◌<◌, ◌≤◌, Bool, true, false, not, T, eqb, sym, refl, ap, ◌∙◌, subst, inr, le_trans, le_of_eq, lt_of_lt_of_le, lt_of_le_of_lt, lt_irrefl, mul-le-mul_right, zero-lt-suc, mul_assoc, mul_comm, mul-lt-mul_of_pos_right, lt_of_not-le, le-div_iff_mul-le, zero-add, arith, lit≤, eqb→eq, pow_pos, pow_mono, pow-add, shl_lt, shl_exact, shr_lt}
 use Prim.Native.Nat.{compare}
 use lib.Dec.{eqb_refl}
+use Rattle.std.specs.Int.{from_bool}
 use lib.Count.{count_leading_zeros, leading_top}
 use lib.Ieee.{binary64, units, of_bits, to_bits}
 use lib.Ieee.Fits.{nearest-le}
@@ -140,9 +141,13 @@ module _ (g e : ℕ) (G : 0 < g) (G' : g < 2 ^ 53) (E : e ≤ 2045) where
         (odd-ge q ge) (odd-lt q lt) place_in.0
 
     -- both at once: the sticky digit tells them apart
-    pub halved : (h : ℕ) → h ≡ more (eqb r 0) → (q * 2 + h < 36028797018963968) × (of_bits binary64 (place g e * 4503599627370496 + closest (q * 2 + h) 4) ≡ root_of binary64 (g * 2 ^ (e + 1074)))
-    halved h is = rw is (go (eqb r 0) (eqb→eq r 0) (λ z. subst (λ (x : ℕ). T (eqb r x)) z (eqb_refl r)))
+    pub halved : (h : ℕ) → h ≡ from_bool (not (eqb r 0)) → (q * 2 + h < 36028797018963968) × (of_bits binary64 (place g e * 4503599627370496 + closest (q * 2 + h) 4) ≡ root_of binary64 (g * 2 ^ (e + 1074)))
+    halved h is = rw (is, digit_more (eqb r 0)) (go (eqb r 0) (eqb→eq r 0) (λ z. subst (λ (x : ℕ). T (eqb r x)) z (eqb_refl r)))
       where
+        digit_more : (b : Bool) → from_bool (not b) ≡ more b
+        digit_more true = refl
+        digit_more false = refl
+
         go : (b : Bool) → (T b → r ≡ 0) → (r ≡ 0 → T b) → (q * 2 + more b < 36028797018963968) × (of_bits binary64 (place g e * 4503599627370496 + closest (q * 2 + more b) 4) ≡ root_of binary64 (g * 2 ^ (e + 1074)))
         go true f n = rw (native.Mathlib.Nat.add-zero (q * 2)) (twice-lt q lt, exact (f tt))
         go false f n = (odd-lt q lt, inexact n)

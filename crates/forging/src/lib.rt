@@ -1,17 +1,109 @@
 // Forging: one field of the counters, the buffer, the detectors or a store is overwritten.
 #![tactic(auto)]
 
+use crate::numbers::Numbers;
 use buffer_rules::WindowBuffer;
-use detectors::motion::{MotionConfig, MotionState};
-use detectors::presence::{PresenceConfig, PresenceState};
-use detectors::quality::{QualityConfig, QualityState};
-use drift::{Baseline, BaselineDriftConfig, DriftState};
 use rvcsi_core::ids::Ids;
-use slots::{Detector, Detectors, Slot};
+use slots::{Detector, Detectors};
 
-pub mod words;
+pub mod numbers;
 
-// The low 32 bits.
+// ---- the fields, by the codes of a script
+
+#[derive(Clone, Copy)]
+pub enum Counter {
+    Window,
+    Event,
+}
+
+#[derive(Clone, Copy)]
+pub enum Buffer {
+    MaxFrames,
+    MaxDuration,
+    Threshold,
+    SubcarrierCount,
+    Pending,
+    First,
+    Last,
+    Quality,
+    Scale,
+}
+
+// Of a detector: word j of its settings, or what numbers its state.
+#[derive(Clone, Copy)]
+pub enum Part {
+    Word(usize),
+    Switch,
+    Streak,
+    Calibration,
+}
+
+// Of the set: how many slots are in use, a slot that becomes a copy of another, or a part of a slot's detector.
+#[derive(Clone, Copy)]
+pub enum Set {
+    Count,
+    Copy,
+    Slot(Part),
+}
+
+#[derive(Clone, Copy)]
+pub enum Store {
+    Amplitudes,
+    Phases,
+    Baseline,
+    Means,
+    Variances,
+}
+
+#[derive(Clone, Copy)]
+pub enum Field {
+    Counter(Counter),
+    Buffer(Buffer),
+    RecentCount,
+    Set(Set),
+    Store(Store),
+}
+
+// A code that names no field.
+#[derive(Clone, Copy, Debug, PartialEq, Eq)]
+pub struct NoField(pub u8);
+
+impl TryFrom<u8> for Field {
+    type Error = NoField;
+
+    fn try_from(code: u8) -> Result<Self, NoField> {
+        Ok(match code {
+            0 => Field::Counter(Counter::Window),
+            1 => Field::Counter(Counter::Event),
+            2 => Field::Buffer(Buffer::MaxFrames),
+            3 => Field::Buffer(Buffer::MaxDuration),
+            4 => Field::Buffer(Buffer::Threshold),
+            5 => Field::Buffer(Buffer::SubcarrierCount),
+            6 => Field::Buffer(Buffer::Pending),
+            7 => Field::Buffer(Buffer::First),
+            8 => Field::Buffer(Buffer::Last),
+            9 => Field::Buffer(Buffer::Quality),
+            10 => Field::Buffer(Buffer::Scale),
+            11 => Field::RecentCount,
+            12 => Field::Set(Set::Count),
+            13 => Field::Set(Set::Copy),
+            16..=19 => Field::Set(Set::Slot(Part::Word(usize::from(code - 16)))),
+            20 => Field::Set(Set::Slot(Part::Switch)),
+            21 => Field::Set(Set::Slot(Part::Streak)),
+            22 => Field::Set(Set::Slot(Part::Calibration)),
+            24 => Field::Store(Store::Amplitudes),
+            25 => Field::Store(Store::Phases),
+            26 => Field::Store(Store::Baseline),
+            27 => Field::Store(Store::Means),
+            28 => Field::Store(Store::Variances),
+            _ => return Err(NoField(code)),
+        })
+    }
+}
+
+// ---- overwriting
+
+// The low 32 bits. `vectors` has these two as well: one line each, which no crate of the library would call.
 fn low(value: u64) -> u32 {
     (value % 0x1_0000_0000) as u32
 }
@@ -20,239 +112,75 @@ fn low_float(value: u64) -> f32 {
     floats::from_bits(low(value))
 }
 
-// Codes 0 and 1.
-pub fn counters(ids: Ids, code: u8, value: u64) -> Ids {
-    let mut out = ids;
-    match code {
-        0 => out.window = value,
-        1 => out.event = value,
-        _ => {}
+pub fn forge_counters(mut ids: Ids, field: Counter, value: u64) -> Ids {
+    match field {
+        Counter::Window => ids.window = value,
+        Counter::Event => ids.event = value,
     }
-    out
+    ids
 }
 
-// ---- the buffer
-
-// Codes 2 to 4.
-fn settings(b: WindowBuffer, code: u8, value: u64) -> WindowBuffer {
-    let mut cfg = b.cfg;
-    match code {
-        2 => cfg.max_frames = value as usize,
-        3 => cfg.max_duration_ns = value,
-        4 => cfg.presence_threshold = low_float(value),
-        _ => {}
+// The place of a list, if it is there.
+fn put(list: &mut [f32], index: usize, value: u64) {
+    if let Some(place) = list.get_mut(index) {
+        *place = low_float(value);
     }
-    let mut out = b;
-    out.cfg = cfg;
-    out
 }
 
-// Codes 5 to 8.
-fn pending(b: WindowBuffer, code: u8, value: u64) -> WindowBuffer {
-    let mut out = b;
-    match code {
-        5 => out.subcarrier_count = value as usize,
-        6 => out.pending = value as usize,
-        7 => out.first = value,
-        8 => out.last = value,
-        _ => {}
+pub fn forge_buffer(mut b: WindowBuffer, field: Buffer, index: usize, value: u64) -> WindowBuffer {
+    match field {
+        Buffer::MaxFrames => b.cfg.max_frames = value as usize,
+        Buffer::MaxDuration => b.cfg.max_duration_ns = value,
+        Buffer::Threshold => b.cfg.presence_threshold = low_float(value),
+        Buffer::SubcarrierCount => b.subcarrier_count = value as usize,
+        Buffer::Pending => b.pending = value as usize,
+        Buffer::First => b.first = value,
+        Buffer::Last => b.last = value,
+        Buffer::Quality => put(&mut b.qualities, index, value),
+        Buffer::Scale => put(&mut b.scales, index, value),
     }
-    out
+    b
 }
 
-// Codes 9 and 10.
-fn pending_value(b: WindowBuffer, code: u8, index: usize, value: u64) -> WindowBuffer {
-    let mut out = b;
-    if 16 <= index {
-        return out;
-    }
-    if code == 9 {
-        out.qualities[index] = low_float(value);
-        return out;
-    }
-    out.scales[index] = low_float(value);
-    out
-}
-
-// Codes 2 to 10.
-pub fn buffer(b: WindowBuffer, code: u8, index: usize, value: u64) -> WindowBuffer {
-    if code < 5 {
-        return settings(b, code, value);
-    }
-    if code < 9 {
-        return pending(b, code, value);
-    }
-    pending_value(b, code, index, value)
-}
-
-// ---- the detectors
-
-fn presence_settings(c: PresenceConfig, j: u8, value: u64) -> PresenceConfig {
-    let mut out = c;
-    match j {
-        16 => out.on_threshold = low_float(value),
-        17 => out.off_threshold = low_float(value),
-        18 => out.enter_windows = low(value),
-        19 => out.exit_windows = low(value),
-        _ => {}
-    }
-    out
-}
-
-fn motion_settings(c: MotionConfig, j: u8, value: u64) -> MotionConfig {
-    let mut out = c;
-    match j {
-        16 => out.on_threshold = low_float(value),
-        17 => out.off_threshold = low_float(value),
-        18 => out.debounce_windows = low(value),
-        _ => {}
-    }
-    out
-}
-
-fn quality_settings(c: QualityConfig, j: u8, value: u64) -> QualityConfig {
-    let mut out = c;
-    match j {
-        16 => out.drop_threshold = low_float(value),
-        17 => out.debounce_windows = low(value),
-        18 => out.calib_windows = low(value),
-        _ => {}
-    }
-    out
-}
-
-fn drift_settings(c: BaselineDriftConfig, j: u8, value: u64) -> BaselineDriftConfig {
-    let mut out = c;
-    match j {
-        16 => out.drift_threshold = low_float(value),
-        17 => out.drift_windows = low(value),
-        18 => out.anomaly_threshold = low_float(value),
-        19 => out.ewma_alpha = low_float(value),
-        _ => {}
-    }
-    out
-}
-
-fn presence_state(s: PresenceState, code: u8, value: u64) -> PresenceState {
-    let mut out = s;
-    match code {
-        20 => out.present = value != 0,
-        21 => out.streak = low(value),
-        _ => {}
-    }
-    out
-}
-
-fn motion_state(s: MotionState, code: u8, value: u64) -> MotionState {
-    let mut out = s;
-    match code {
-        20 => out.moving = value != 0,
-        21 => out.streak = low(value),
-        _ => {}
-    }
-    out
-}
-
-fn quality_state(s: QualityState, code: u8, value: u64) -> QualityState {
-    let mut out = s;
-    match code {
-        20 => out.dropped_emitted = value != 0,
-        21 => out.low_streak = low(value),
-        22 => out.calib_emitted = value != 0,
-        _ => {}
-    }
-    out
-}
-
-fn baseline(value: u64) -> Baseline {
-    if value == 0 {
-        return Baseline::Unset;
-    }
-    Baseline::Set((value - 1) as usize)
-}
-
-fn drift_state(s: DriftState, code: u8, value: u64) -> DriftState {
-    if code == 20 {
-        return DriftState {
-            baseline: baseline(value),
-            drift_streak: s.drift_streak,
-        };
-    }
-    let mut out = s;
-    if code == 21 {
-        out.drift_streak = low(value);
-    }
-    out
-}
-
-// Codes 16 to 22.
-fn detector(d: Detector, code: u8, value: u64) -> Detector {
-    match d {
-        Detector::Presence(c, s) => {
-            Detector::Presence(
-                presence_settings(c, code, value),
-                presence_state(s, code, value),
-            )
+// What a kind does not have stays.
+fn forge_detector(d: Detector, part: Part, value: u64) -> Detector {
+    let mut numbers = Numbers::from(d);
+    match part {
+        Part::Word(j) => {
+            if let Some(word) = numbers.words.get_mut(j) {
+                *word = low(value);
+            }
         }
-        Detector::Motion(c, s) => {
-            Detector::Motion(
-                motion_settings(c, code, value),
-                motion_state(s, code, value),
-            )
+        Part::Switch => numbers.switch = value,
+        Part::Streak => numbers.streak = low(value),
+        Part::Calibration => numbers.calibration = value != 0,
+    }
+    numbers.detector(d)
+}
+
+// A slot that is not there changes nothing.
+pub fn forge_detectors(mut set: Detectors, field: Set, index: usize, value: u64) -> Detectors {
+    let slots = &mut set.slots;
+    match field {
+        Set::Count => set.count = value as usize,
+        Set::Copy => {
+            if let (Some(from), Some(to)) = (
+                slots.get(value as usize).copied(),
+                slots.get_mut(index),
+            ) {
+                *to = from;
+            }
         }
-        Detector::Quality(c, s) => {
-            Detector::Quality(
-                quality_settings(c, code, value),
-                quality_state(s, code, value),
-            )
-        }
-        Detector::Drift(c, s) => {
-            Detector::Drift(drift_settings(c, code, value), drift_state(s, code, value))
+        Set::Slot(part) => {
+            if let Some(slot) = slots.get_mut(index) {
+                slot.detector = forge_detector(slot.detector, part, value);
+            }
         }
     }
+    set
 }
 
-// Code 13.
-fn copied(set: Detectors, index: usize, value: u64) -> Detectors {
-    let mut out = set;
-    if 4 <= value {
-        return out;
-    }
-    let from = value as usize;
-    if index < 4 {
-        let slot = set.slots[from];
-        out.slots[index] = slot;
-    }
-    out
-}
-
-// Codes 12 to 22.
-pub fn detectors(set: Detectors, code: u8, index: usize, value: u64) -> Detectors {
-    if code == 13 {
-        return copied(set, index, value);
-    }
-    let mut out = set;
-    if code == 12 {
-        out.count = value as usize;
-        return out;
-    }
-    if code < 16 {
-        return out;
-    }
-    if index < 4 {
-        let slot = set.slots[index];
-        let d = slot.detector;
-        out.slots[index] = Slot {
-            detector: detector(d, code, value),
-        };
-    }
-    out
-}
-
-// Codes 24 to 28: the place value div 2^32 of a store, if there is one.
-pub fn store(list: &mut [f32], value: u64) {
-    let at = (value / 0x1_0000_0000) as usize;
-    if at < list.len() {
-        list[at] = low_float(value);
-    }
+// The place value div 2^32 of a store.
+pub fn forge_store(list: &mut [f32], value: u64) {
+    put(list, (value / 0x1_0000_0000) as usize, value);
 }

@@ -2,10 +2,10 @@
 use mathlib.Core.Path.{◌≡◌, sym, ap, ◌∙◌}
 use mathlib.Core.List.{List}
 use lib.Ieee.{Float}
+use Rattle.std.specs.Prelude.{ℕ, Option}
 use Rattle.rvcsi_core.specs.Counters.{minted}
 use Rattle.rvcsi_core.specs.declared.ids.Ids.{Ids}
 use Rattle.rvcsi_core.specs.declared.ids.Minted.{Minted}
-use Rattle.rvcsi_core.specs.declared.ids.Taken.{Taken}
 use Rattle.pipeline.specs.Process.{Outcome}
 use Rattle.pipeline.specs.declared.Processed.{Processed}
 use Rattle.pipeline.proofs.Agree.{processed_agree}
@@ -14,7 +14,7 @@ use Rattle.in_place.specs.Lent.{together, lent}
 use Rattle.in_place.specs.declared.Answered.{Answered}
 
 -- of `next_window` and `next_event`: the number and the counters
-pub taken_agree : (m : Minted) (t t' : Taken) (i i' : Ids) → minted t i ≡ m → minted t' i' ≡ m → (t ≡ t') × (i ≡ i')
+pub taken_agree : (m : Minted) (t t' : Option ℕ) (i i' : Ids) → minted t i ≡ m → minted t' i' ≡ m → (t ≡ t') × (i ≡ i')
 taken_agree m t t' i i' e f =
     let h : minted t i ≡ minted t' i' = e ∙ sym f in
     (ap (λ (x : Minted). x.taken) h, ap (λ (x : Minted). x.ids) h)

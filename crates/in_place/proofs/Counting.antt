@@ -7,11 +7,10 @@ use native.Mathlib.Omega.{arith}
 use lib.Dec.{eqb}
 use lib.ListN.{length}
 use lib.Ieee.{Float}
+use Rattle.std.specs.Prelude.{Option, Some, None}
 use Rattle.rvcsi_core.specs.Counters.{last, minted, next_window, next_event}
 use Rattle.rvcsi_core.specs.declared.ids.Ids.{Ids}
 use Rattle.rvcsi_core.specs.declared.ids.Minted.{Minted}
-use Rattle.rvcsi_core.specs.declared.ids.Taken.{Taken}
-use Rattle.rvcsi_core.specs.declared.ids.Taken.TheVariants.{Number, Full}
 use Rattle.rvcsi_core.proofs.Numbered.{window_given, event_given, window_full, event_full}
 use Rattle.in_place.proofs.Agree.{taken_agree}
 use Rattle.buffer_rules.specs.Paper.{Returns, nothing, place, window, Answer, Ruling, fine, refused}
@@ -31,35 +30,35 @@ use Rattle.in_place.specs.declared.Answered.{Answered}
 -- ---- the next number
 
 -- below 2^64 - 1 the number at hand is given, and that counter alone rises by one
-pub window_advances : (t : Taken) (i j : Ids) → minted t j ≡ next_window i → i.window < last → (t ≡ Number i.window) × (j ≡ record { window = i.window + 1; event = i.event })
+pub window_advances : (t : Option ℕ) (i j : Ids) → minted t j ≡ next_window i → i.window < last → (t ≡ Some i.window) × (j ≡ record { window = i.window + 1; event = i.event })
 window_advances t i j e h = taken_agree _ t _ j _ e (window_given i h)
 
-pub event_advances : (t : Taken) (i j : Ids) → minted t j ≡ next_event i → i.event < last → (t ≡ Number i.event) × (j ≡ record { window = i.window; event = i.event + 1 })
+pub event_advances : (t : Option ℕ) (i j : Ids) → minted t j ≡ next_event i → i.event < last → (t ≡ Some i.event) × (j ≡ record { window = i.window; event = i.event + 1 })
 event_advances t i j e h = taken_agree _ t _ j _ e (event_given i h)
 
 -- at 2^64 - 1 none is given, and the counters stay
-pub window_stays : (t : Taken) (i j : Ids) → minted t j ≡ next_window i → i.window ≡ last → (t ≡ Full) × (j ≡ i)
+pub window_stays : (t : Option ℕ) (i j : Ids) → minted t j ≡ next_window i → i.window ≡ last → (t ≡ None) × (j ≡ i)
 window_stays t i j e h = taken_agree _ t _ j _ e (window_full i h)
 
-pub event_stays : (t : Taken) (i j : Ids) → minted t j ≡ next_event i → i.event ≡ last → (t ≡ Full) × (j ≡ i)
+pub event_stays : (t : Option ℕ) (i j : Ids) → minted t j ≡ next_event i → i.event ≡ last → (t ≡ None) × (j ≡ i)
 event_stays t i j e h = taken_agree _ t _ j _ e (event_full i h)
 
 -- a number that was given is the counter's, and the next one is one higher: none is taken twice
-number_is : (b : Bool) (n c : ℕ) (i j up : Ids) → minted (Number n) j ≡ cond b (minted Full i) (minted (Number c) up) → (n ≡ c) × (j ≡ up)
+number_is : (b : Bool) (n c : ℕ) (i j up : Ids) → minted (Some n) j ≡ cond b (minted None i) (minted (Some c) up) → (n ≡ c) × (j ≡ up)
 number_is true n c i j up e =
-    let t : Number n ≡ Full = ap (λ (m : Minted). m.taken) e in
+    let t : Some n ≡ None = ap (λ (m : Minted). m.taken) e in
     absurd (let z : ◌≡◌ {A = ℕ} 0 1 = cc in omega arith)
 number_is false n c i j up e =
-    (let t : Number n ≡ Number c = ap (λ (m : Minted). m.taken) e in cc, ap (λ (m : Minted). m.ids) e)
+    (let t : Some n ≡ Some c = ap (λ (m : Minted). m.taken) e in cc, ap (λ (m : Minted). m.ids) e)
 
-pub windows_in_a_row : (i j k : Ids) (n m : ℕ) → minted (Number n) j ≡ next_window i → minted (Number m) k ≡ next_window j → m ≡ n + 1
+pub windows_in_a_row : (i j k : Ids) (n m : ℕ) → minted (Some n) j ≡ next_window i → minted (Some m) k ≡ next_window j → m ≡ n + 1
 unfolding next_window
 windows_in_a_row i j k n m e f =
     let first = number_is (eqb i.window last) n _ i j _ e in
     let second = number_is (eqb j.window last) m _ j k _ f in
     second.0 ∙ ap (λ (x : Ids). x.window) first.1 ∙ ap (λ (x : ℕ). x + 1) (sym first.0)
 
-pub events_in_a_row : (i j k : Ids) (n m : ℕ) → minted (Number n) j ≡ next_event i → minted (Number m) k ≡ next_event j → m ≡ n + 1
+pub events_in_a_row : (i j k : Ids) (n m : ℕ) → minted (Some n) j ≡ next_event i → minted (Some m) k ≡ next_event j → m ≡ n + 1
 unfolding next_event
 events_in_a_row i j k n m e f =
     let first = number_is (eqb i.event last) n _ i j _ e in

@@ -3,75 +3,53 @@
 
 ghost use Rattle.std.specs.Prelude.{◌≡◌};
 ghost use Rattle.rvcsi_core.specs.Counters.{minted, next_window, next_event};
+ghost use Rattle.window_buffer.specs.Lent.{SameStores, SameResults};
 ghost use Rattle.pipeline.specs.Process.{process_of, flush_of};
-ghost use Rattle.in_place.specs.Lent.{lent};
+ghost use Rattle.in_place.specs.Lent.{together, lent};
 
-use pipeline::EventPipeline;
-use rvcsi_core::frame::CsiFrame;
-use rvcsi_core::ids::{Ids, Taken};
+use buffer_rules::Refusal;
+use pipeline::{EventPipeline, Processed};
+use rvcsi_core::frame::{CsiFrame, Lists};
+use rvcsi_core::ids::{Ids, Minted};
 use slots::Batch;
-use window_buffer::Reply;
+use window_buffer::{Closed, Results, Stores};
 
-// The next window number; the counters rise behind the reference.
-pub fn next_window(ids: &mut Ids) -> Taken
-    ensures { minted result ids.new ≡ next_window ids.old }
+// The number that was taken; the counters after it go behind the reference.
+fn hand_out(ids: &mut Ids, out: Minted) -> Option<u64>
+    ensures { minted result ids.new ≡ out }
 {
-    let was = *ids;
-    let out = rvcsi_core::ids::next_window(was);
     *ids = out.ids;
     out.taken
 }
 
+// The next window number; the counters rise behind the reference.
+pub fn next_window(ids: &mut Ids) -> Option<u64>
+    ensures { minted result ids.new ≡ next_window ids.old }
+{
+    let out = rvcsi_core::ids::next_window(*ids);
+    hand_out(ids, out)
+}
+
 // The next event number; the counters rise behind the reference.
-pub fn next_event(ids: &mut Ids) -> Taken
+pub fn next_event(ids: &mut Ids) -> Option<u64>
     ensures { minted result ids.new ≡ next_event ids.old }
 {
-    let was = *ids;
-    let out = rvcsi_core::ids::next_event(was);
-    *ids = out.ids;
-    out.taken
+    let out = rvcsi_core::ids::next_event(*ids);
+    hand_out(ids, out)
 }
 
 // The reply, the pipeline, and the events of the window that closed; the counters stay behind the reference.
 #[derive(Clone, Copy)]
 pub struct Answered {
-    pub reply: Reply,
+    pub reply: Result<Option<Closed>, Refusal>,
     pub pipeline: EventPipeline,
     pub batch: Batch,
 }
 
-// `pipeline::process_frame` on lent counters.
-pub fn process_frame<'a>(
-    ids: &mut Ids,
-    pipeline: EventPipeline,
-    frame: CsiFrame,
-    amplitude: &'a [f32],
-    phase: &'a [f32],
-    pairs: &'a [f32],
-    amplitude_store: &mut [f32],
-    phase_store: &mut [f32],
-    baseline_store: &mut [f32],
-    mean_amplitude: &mut [f32],
-    phase_variance: &mut [f32],
-) -> Answered
-    ensures { lent ids.new result amplitude_store.new phase_store.new baseline_store.new mean_amplitude.new phase_variance.new
-        ≡ process_of ids.old pipeline frame amplitude.now phase.now pairs.now
-        amplitude_store.old phase_store.old baseline_store.old mean_amplitude.old phase_variance.old }
+// All but the counters; these go behind the reference.
+fn answer(ids: &mut Ids, out: Processed) -> Answered
+    ensures { together ids.new result ≡ out }
 {
-    let was = *ids;
-    let out = pipeline::process_frame(
-        was,
-        pipeline,
-        frame,
-        amplitude,
-        phase,
-        pairs,
-        amplitude_store,
-        phase_store,
-        baseline_store,
-        mean_amplitude,
-        phase_variance,
-    );
     *ids = out.ids;
     Answered {
         reply: out.reply,
@@ -80,33 +58,57 @@ pub fn process_frame<'a>(
     }
 }
 
-// `pipeline::flush` on lent counters.
+// `pipeline::process_frame` on lent counters.
+pub fn process_frame(
+    ids: &mut Ids,
+    pipeline: EventPipeline,
+    frame: CsiFrame,
+    lists: &Lists<'_>,
+    stores: &mut Stores<'_>,
+    baseline_store: &mut [f32],
+    results: &mut Results<'_>,
+) -> Answered
+    ensures same_references { SameStores stores.old stores.new × SameResults results.old results.new }
+    ensures made { lent ids.new result stores.new.amplitudes.now stores.new.phases.now baseline_store.new
+        results.new.mean_amplitude.now results.new.phase_variance.now
+        ≡ process_of ids.old pipeline frame lists.now.amplitudes.now lists.now.phases.now lists.now.pairs.now
+        stores.old.amplitudes.now stores.old.phases.now baseline_store.old
+        results.old.mean_amplitude.now results.old.phase_variance.now }
+{
+    let out = pipeline::process_frame(
+        *ids,
+        pipeline,
+        frame,
+        lists,
+        stores,
+        baseline_store,
+        results,
+    );
+    answer(ids, out)
+}
+
+// `pipeline::flush` on lent counters. It is lent the stores to read alone, and promises other things than a frame.
 pub fn flush(
     ids: &mut Ids,
     pipeline: EventPipeline,
     amplitude_store: &[f32],
     phase_store: &[f32],
     baseline_store: &mut [f32],
-    mean_amplitude: &mut [f32],
-    phase_variance: &mut [f32],
+    results: &mut Results<'_>,
 ) -> Answered
-    ensures { lent ids.new result amplitude_store.now phase_store.now baseline_store.new mean_amplitude.new phase_variance.new
-        ≡ flush_of ids.old pipeline amplitude_store.now phase_store.now baseline_store.old mean_amplitude.old phase_variance.old }
+    ensures same_references { SameResults results.old results.new }
+    ensures made { lent ids.new result amplitude_store.now phase_store.now baseline_store.new
+        results.new.mean_amplitude.now results.new.phase_variance.now
+        ≡ flush_of ids.old pipeline amplitude_store.now phase_store.now baseline_store.old
+        results.old.mean_amplitude.now results.old.phase_variance.now }
 {
-    let was = *ids;
     let out = pipeline::flush(
-        was,
+        *ids,
         pipeline,
         amplitude_store,
         phase_store,
         baseline_store,
-        mean_amplitude,
-        phase_variance,
+        results,
     );
-    *ids = out.ids;
-    Answered {
-        reply: out.reply,
-        pipeline: out.pipeline,
-        batch: out.batch,
-    }
+    answer(ids, out)
 }

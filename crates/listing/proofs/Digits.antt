@@ -7,19 +7,13 @@ use Prim.Native.Nat.{ℕ, zero, suc, ◌+◌, ◌-◌, ◌/◌, ◌%◌, ◌≤�
 use native.Mathlib.Nat.{le_refl}
 use native.Mathlib.Numerals.{add-one, sub-one}
 use native.Mathlib.Omega.{arith}
-use borrow.Author.Tests.{eq-eqb, eqb-true, lt-ltb, le-ltb}
+use borrow.Author.Tests.{eq-eqb, eqb-true}
 use lib.Dec.{eqb}
 use lib.ListN.{length, get_or, set, take, drop, length-append, length-set, length-drop}
 use lib.Seq.{sets, drop-cons, take_all}
 use Rattle.listing.specs.Text.{glyph, digits, trimmed, decimal, hex}
 use Rattle.listing.specs.Lines.{field, bits_field, Placed}
 use Rattle.listing.proofs.Writing.{sets_last, placed, placed-byte}
-
-pub glyph_low : (d : ℕ) → d < 10 → 48 + d ≡ glyph d
-glyph_low d h = ap (λ (t : Bool). cond t (48 + d) (87 + d)) (sym (lt-ltb d 10 h))
-
-pub glyph_high : (d : ℕ) → 10 ≤ d → 87 + d ≡ glyph d
-glyph_high d h = ap (λ (t : Bool). cond t (48 + d) (87 + d)) (sym (le-ltb d 10 h))
 
 pub digits_long : (b k n : ℕ) → length (digits b k n) ≡ k
 unfolding digits
@@ -31,9 +25,6 @@ pub record Spelt (d₀ : List ℕ) (at b k n : ℕ) (d : List ℕ) (i rest : ℕ
   pub most : i ≤ k
   pub wide : length d ≡ length d₀
   pub same : sets d at (digits b i rest) ≡ sets d₀ at (digits b k n)
-
-pub spelt_all : (d₀ : List ℕ) (at b k n : ℕ) → Spelt d₀ at b k n d₀ k n
-spelt_all d₀ at b k n = record { most = omega arith; wide = refl; same = refl }
 
 pub spelt_more : {d₀ : List ℕ} {at b k n : ℕ} {d : List ℕ} {i rest : ℕ} (g : ℕ) → Spelt d₀ at b k n d i rest → 0 < i → g ≡ glyph (rest % b) → Spelt d₀ at b k n (set d (at + (i - 1)) g) (i - 1) (rest / b)
 unfolding digits
@@ -91,9 +82,6 @@ trim_short (d ∷ e ∷ ds) h = absurd (no h)
 pub record Dropped (l : List ℕ) (i : ℕ) : Type 0 where
   pub most : i ≤ length l
   pub same : trimmed (drop i l) ≡ trimmed l
-
-pub dropped_none : (l : List ℕ) → Dropped l 0
-dropped_none l = record { most = omega arith; same = refl }
 
 two : (l : List ℕ) (i : ℕ) → i + 1 < length l → drop i l ≡ get_or l i 0 ∷ get_or l (suc i) 0 ∷ drop (suc (suc i)) l
 two l i h = drop-cons l i 0 (omega arith) ∙ ap (λ (r : List ℕ). get_or l i 0 ∷ r) (drop-cons l (suc i) 0 (omega arith))

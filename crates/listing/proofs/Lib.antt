@@ -1,4 +1,3 @@
 pub mod Writing
 pub mod Digits
-pub mod Tally
 pub mod Examples

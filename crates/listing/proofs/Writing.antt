@@ -1,16 +1,14 @@
 -- Bytes written one after the other are the write of them all.
 -- Assumes nothing.
-use mathlib.Core.Path.{◌≡◌, refl, sym, ap, ◌∙◌, subst}
-use mathlib.Core.List.{List, [], ◌∷◌, ◌++◌}
-use Prim.Native.Nat.{ℕ, suc, ◌+◌, ◌≤◌, ◌<◌}
+use mathlib.Core.Path.{◌≡◌, refl, sym, ap, ◌∙◌}
+use mathlib.Core.List.{List, [], ◌∷◌, ◌++◌, append_assoc}
+use borrow.Rule.Slice.PartMut.{put_mid}
+use Prim.Native.Nat.{ℕ, suc, ◌+◌, ◌≤◌}
 use native.Mathlib.Nat.{add-zero, add-suc, suc-add}
-use native.Mathlib.Numerals.{add-one}
 use native.Mathlib.Omega.{arith}
-use lib.ListN.{length, get_or, set, take, drop, length-append, length-set, drop_of_length-le}
-use lib.Seq.{sets, length-sets, sets-eq, set_comm, drop-cons}
-use Rattle.rvcsi_core.specs.declared.event.CsiEventKind.{CsiEventKind}
-use Rattle.rvcsi_core.specs.declared.event.CsiEventKind.TheVariants.{PresenceStarted, PresenceEnded, MotionDetected, MotionSettled, BaselineChanged, SignalQualityDropped, AnomalyDetected, CalibrationRequired}
-use Rattle.listing.specs.Lines.{word, Placed}
+use lib.ListN.{length, set, take, drop, length-append, drop_of_length-le}
+use lib.Seq.{sets, sets-eq, set_comm, drop-drop}
+use Rattle.listing.specs.Lines.{Placed}
 
 pub sets_sets : (d : List ℕ) (at : ℕ) (xs ys : List ℕ) → sets (sets d at xs) (at + length xs) ys ≡ sets d at (xs ++ ys)
 sets_sets d at [] ys = ap (λ (k : ℕ). sets d k ys) (add-zero at)
@@ -39,27 +37,12 @@ sets_whole d bs e = go (sets-eq bs d 0 (omega (arith, e)))
         nil [] = refl
         nil (x ∷ l) = ap (λ (r : List ℕ). x ∷ r) (nil l)
 
--- i bytes of bs are written from `at` on over d₀, which has become d, and p is the next place
-pub record Left (bs d₀ : List ℕ) (at : ℕ) (d : List ℕ) (p i : ℕ) : Type 0 where
-  pub most : i ≤ length bs
-  pub wide : length d ≡ length d₀
-  pub place : p ≡ at + i
-  pub same : sets d p (drop i bs) ≡ sets d₀ at bs
-
-pub left_all : (bs d₀ : List ℕ) (at : ℕ) → Left bs d₀ at d₀ at 0
-left_all bs d₀ at = record { most = omega arith; wide = refl; place = sym (add-zero at); same = refl }
-
-module _ {bs d₀ : List ℕ} {at : ℕ} {d : List ℕ} {p i : ℕ} (w : Left bs d₀ at d p i) where
-  pub left_more : i < length bs → Left bs d₀ at (set d p (get_or bs i 0)) (p + 1) (i + 1)
-  left_more h = record {
-    most = omega arith;
-    wide = length-set d p (get_or bs i 0) ∙ w.wide;
-    place = omega (arith, w.place);
-    same = rw (add-one p, add-one i) (rw (drop-cons bs i 0 h) at w.same);
-  }
-
-  pub left-done : length bs ≤ i → (p ≡ at + length bs) × (d ≡ sets d₀ at bs)
-  left-done h = (omega (arith, w.place, w.most), rw (drop_of_length-le bs h) at w.same)
+-- bytes copied into the k places from `at` on
+pub put-sets : (d : List ℕ) (at k : ℕ) (ys bs : List ℕ) → at + k ≤ length d → ys ≡ bs → k ≡ length bs → put_mid at k d ys ≡ sets d at bs
+put-sets d at k ys bs h e w =
+    ap (λ (l : List ℕ). take at d ++ (l ++ drop k (drop at d))) e ∙ ap (λ (l : List ℕ). take at d ++ (bs ++ l)) (drop-drop k at d ∙ ap (λ (m : ℕ). drop (at + m) d) w)
+    ∙ sym (append_assoc (take at d) bs (drop (at + length bs) d))
+    ∙ sym (sets-eq bs d at (omega (arith, w)))
 
 -- ---- one write after another
 module _ {d₀ : List ℕ} {at : ℕ} {bs : List ℕ} {n : ℕ} {d : List ℕ} {p : ℕ} (w : Placed d₀ at bs n d p) where
@@ -74,9 +57,6 @@ module _ {d₀ : List ℕ} {at : ℕ} {bs : List ℕ} {n : ℕ} {d : List ℕ} {
   pub placed-byte : (b : ℕ) → Placed d₀ at (bs ++ (b ∷ [])) (n + 1) (set d p b) (p + 1)
   placed-byte b = placed-more (record { place = refl; few = omega arith; same = refl })
 
-  pub placed-wide : length d ≡ length d₀
-  placed-wide = ap length w.same ∙ length-sets d₀ at bs
-
 pub placed : {d₀ : List ℕ} {at : ℕ} {d : List ℕ} {p : ℕ} (bs : List ℕ) (n : ℕ) → length bs ≤ n → p ≡ at + length bs → d ≡ sets d₀ at bs → Placed d₀ at bs n d p
 placed bs n f a b = record { place = a; few = f; same = b }
 
@@ -87,16 +67,3 @@ line_done w = (omega (arith, w.place), w.same)
 -- the first word of a line
 pub line_start : {d₀ d : List ℕ} {p : ℕ} (bs : List ℕ) → p ≡ 0 + length bs → d ≡ sets d₀ 0 bs → Placed d₀ 0 bs (length bs) d p
 line_start bs a b = record { place = a; few = omega arith; same = b }
-
-word_few : (k : CsiEventKind) → length (word k) ≤ 16
-word_few PresenceStarted = omega arith
-word_few PresenceEnded = omega arith
-word_few MotionDetected = omega arith
-word_few MotionSettled = omega arith
-word_few BaselineChanged = omega arith
-word_few SignalQualityDropped = omega arith
-word_few AnomalyDetected = omega arith
-word_few CalibrationRequired = omega arith
-
-pub word_done : {d₀ : List ℕ} {at : ℕ} {d : List ℕ} {p : ℕ} {kind k : CsiEventKind} → kind ≡ k → p ≡ at + length (word k) → d ≡ sets d₀ at (word k) → Placed d₀ at (word kind) 16 d p
-word_done {d₀} {at} {d} {p} {kind} {k} e a b = subst (λ (x : CsiEventKind). Placed d₀ at (word x) 16 d p) (sym e) (placed (word k) 16 (word_few k) a b)

@@ -26,7 +26,3 @@ count_frame c number closed =
 -- the flush: it closes a window, or none
 unfoldable pub count_flush : Counts → Bool → Counts
 count_flush c closed = counts c.accepted (more_if closed c.windows) c.skipped
-
--- nothing counted yet
-abbrev pub no_counts : Counts
-no_counts = counts 0 0 0

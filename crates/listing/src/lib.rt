@@ -7,7 +7,7 @@ ghost use Rattle.listing.specs.Text.{digits, trimmed};
 ghost use Rattle.listing.specs.Text.{glyph as Text·glyph};
 ghost use Rattle.listing.specs.Lines.{heading_line, kind_field, bits_field, event_line, stop_line, end_line, Placed};
 ghost use Rattle.listing.specs.Lines.{field as Lines·field, word as Lines·word};
-ghost use Rattle.listing.specs.Counting.{more_if, count_frame, count_flush, no_counts};
+ghost use Rattle.listing.specs.Counting.{more_if, count_frame, count_flush};
 ghost use Rattle.listing.specs.Counting.{skips as Counting·skips};
 
 use rvcsi_core::event::{CsiEvent, CsiEventKind};
@@ -15,7 +15,8 @@ use rvcsi_core::event::{CsiEvent, CsiEventKind};
 // The longest line has 89 bytes.
 pub const LINE: usize = 96;
 
-// ---- bytes
+// ---- bytes. Each part takes the place where it begins and returns the one behind it: `Placed` says both as equations, with no state to keep.
+// It is no `Display` with `write!`, since their clauses say nothing of the bytes.
 
 // A digit as text.
 fn glyph(d: u64) -> u8
@@ -25,17 +26,15 @@ fn glyph(d: u64) -> u8
     if d < 10 { 48 + d as u8 } else { 87 + d as u8 }
 }
 
-// The last k digits of n in a base, from `at` on.
+// The last k digits of n in a base, from `at` on, the last first. By index: of what `iter_mut().rev()` leaves in a list, no more than the length is known.
 fn spell(out: &mut [u8], at: usize, base: u64, k: usize, n: u64)
     requires { (at + k ≤ length out.old) × (0 < base) × (base ≤ 16) }
     ensures { out.new ≡ sets out.old at (digits base k n) }
 {
-    let mut i = k;
     let mut rest = n;
-    while 0 < i {
-        i -= 1;
+    for i in (0..k).rev() {
         out[at + i] = glyph(rest % base);
-        rest = rest / base;
+        rest /= base;
     }
 }
 
@@ -43,14 +42,13 @@ fn spell(out: &mut [u8], at: usize, base: u64, k: usize, n: u64)
 fn zeros(text: &[u8]) -> usize
     ensures { (drop result text.now ≡ trimmed text.now) × (result ≤ length text.now) }
 {
-    let mut i: usize = 0;
-    while i + 1 < text.len() {
-        if text[i] != 48 {
+    let last = text.len().saturating_sub(1);
+    for (i, digit) in text[..last].iter().enumerate() {
+        if *digit != b'0' {
             return i;
         }
-        i += 1;
     }
-    i
+    last
 }
 
 // Bytes from `at` on; the place after them.
@@ -58,14 +56,9 @@ fn put(out: &mut [u8], at: usize, bytes: &[u8]) -> usize
     requires { at + length bytes.now ≤ length out.old }
     ensures { (result ≡ at + length bytes.now) × (out.new ≡ sets out.old at bytes.now) }
 {
-    let mut p = at;
-    let mut i: usize = 0;
-    while i < bytes.len() {
-        out[p] = bytes[i];
-        p += 1;
-        i += 1;
-    }
-    p
+    let end = at + bytes.len();
+    out[at..end].copy_from_slice(bytes);
+    end
 }
 
 // A number in twenty decimal digits.
@@ -89,30 +82,29 @@ fn field(out: &mut [u8], at: usize, n: u64, behind: u8) -> usize
     p + 1
 }
 
-// A kind's word, from `at` on; the place after it.
-fn word(out: &mut [u8], at: usize, kind: CsiEventKind) -> usize
-    requires { at + 16 ≤ length out.old }
-    ensures { Placed out.old at (Lines·word kind) 16 out.new result }
+// A kind's word.
+fn word(kind: CsiEventKind) -> &'static [u8]
+    ensures { result.now ≡ Lines·word kind }
 {
     match kind {
-        CsiEventKind::PresenceStarted => put(out, at, b"presence-started"),
-        CsiEventKind::PresenceEnded => put(out, at, b"presence-ended"),
-        CsiEventKind::MotionDetected => put(out, at, b"motion-detected"),
-        CsiEventKind::MotionSettled => put(out, at, b"motion-settled"),
-        CsiEventKind::BaselineChanged => put(out, at, b"baseline-changed"),
-        CsiEventKind::SignalQualityDropped => put(out, at, b"quality-dropped"),
-        CsiEventKind::AnomalyDetected => put(out, at, b"anomaly"),
-        CsiEventKind::CalibrationRequired => put(out, at, b"calibration"),
+        CsiEventKind::PresenceStarted => b"presence-started",
+        CsiEventKind::PresenceEnded => b"presence-ended",
+        CsiEventKind::MotionDetected => b"motion-detected",
+        CsiEventKind::MotionSettled => b"motion-settled",
+        CsiEventKind::BaselineChanged => b"baseline-changed",
+        CsiEventKind::SignalQualityDropped => b"quality-dropped",
+        CsiEventKind::AnomalyDetected => b"anomaly",
+        CsiEventKind::CalibrationRequired => b"calibration",
     }
 }
 
-// The word and a comma.
+// A kind's word and a comma, from `at` on; the place after them.
 fn kind_field(out: &mut [u8], at: usize, kind: CsiEventKind) -> usize
     requires { at + 17 ≤ length out.old }
     ensures { Placed out.old at (kind_field kind) 17 out.new result }
 {
-    let p = word(out, at, kind);
-    out[p] = 44;
+    let p = put(out, at, word(kind));
+    out[p] = b',';
     p + 1
 }
 
@@ -121,9 +113,9 @@ fn bits_field(out: &mut [u8], at: usize, bits: u32) -> usize
     requires { at + 9 ≤ length out.old }
     ensures { Placed out.old at (bits_field bits) 9 out.new result }
 {
-    spell(out, at, 16, 8, bits as u64);
+    spell(out, at, 16, 8, u64::from(bits));
     let p = at + 8;
-    out[p] = 10;
+    out[p] = b'\n';
     p + 1
 }
 
@@ -142,10 +134,10 @@ pub fn event_line(out: &mut [u8; LINE], e: CsiEvent) -> usize
 {
     let kind = e.kind;
     let bits = floats::to_bits(e.confidence);
-    let p1 = field(out, 0, e.event_id, 44);
-    let p2 = field(out, p1, e.window_id, 44);
+    let p1 = field(out, 0, e.event_id, b',');
+    let p2 = field(out, p1, e.window_id, b',');
     let p3 = kind_field(out, p2, kind);
-    let p4 = field(out, p3, e.timestamp_ns, 44);
+    let p4 = field(out, p3, e.timestamp_ns, b',');
     bits_field(out, p4, bits)
 }
 
@@ -154,8 +146,8 @@ pub fn stop_line(out: &mut [u8; LINE], number: u64, offset: u64) -> usize
     ensures { (result ≡ length (stop_line number offset)) × (out.new ≡ sets out.old 0 (stop_line number offset)) }
 {
     let p1 = put(out, 0, b"stop,");
-    let p2 = field(out, p1, number, 44);
-    field(out, p2, offset, 10)
+    let p2 = field(out, p1, number, b',');
+    field(out, p2, offset, b'\n')
 }
 
 // The end line.
@@ -163,86 +155,57 @@ pub fn end_line(out: &mut [u8; LINE], c: Counts) -> usize
     ensures { (result ≡ length (end_line c)) × (out.new ≡ sets out.old 0 (end_line c)) }
 {
     let p1 = put(out, 0, b"end,");
-    let p2 = field(out, p1, c.accepted, 44);
-    let p3 = field(out, p2, c.windows, 44);
-    field(out, p3, c.skipped, 10)
+    let p2 = field(out, p1, c.accepted, b',');
+    let p3 = field(out, p2, c.windows, b',');
+    field(out, p3, c.skipped, b'\n')
 }
 
 // ---- counts
 
-#[derive(Clone, Copy)]
+// By default nothing is counted yet.
+#[derive(Clone, Copy, Default)]
 pub struct Counts {
     pub accepted: u64,
     pub windows: u64,
     pub skipped: u64,
 }
 
-// Nothing counted yet.
-pub fn no_counts() -> Counts
-    ensures { result ≡ no_counts }
-{
-    Counts {
-        accepted: 0,
-        windows: 0,
-        skipped: 0,
-    }
-}
-
 // One more where the test holds; 2^64 - 1 stays.
+#[tactic(auto, unfolding(crate::specs::Counting::more))]
 fn more_if(test: bool, n: u64) -> u64
     ensures { result ≡ more_if test n }
 {
-    if !test {
-        return n;
-    }
-    if n == 0xffff_ffff_ffff_ffff {
-        return n;
-    }
-    n + 1
+    n.saturating_add(u64::from(test))
 }
 
-// Does a reply of this number skip its frame?
+// Does a reply of this number skip its frame? By the scope document's number: the clause answers every number, refusals or not.
+#[tactic(auto, unfolding(crate::specs::Counting::skips))]
 pub fn skips(number: u64) -> bool
     ensures { result ≡ Counting·skips number }
 {
-    if number < 2 {
-        return false;
-    }
-    if number == 5 {
-        return false;
-    }
-    number <= 8
+    matches!(number, 2..=4 | 6..=8)
 }
 
-// The counts after a frame's reply of this number, which closed a window or did not.
+// The counts after a frame's reply of this number, which closed a window or did not. As `skips`, by any number.
+#[tactic(auto, unfolding(crate::specs::Counting::count_frame))]
 pub fn count_frame(c: Counts, number: u64, closed: bool) -> Counts
     ensures { result ≡ count_frame c number closed }
 {
-    let skipped = more_if(skips(number), c.skipped);
-    if number != 0 {
-        return Counts {
-            accepted: c.accepted,
-            windows: c.windows,
-            skipped,
-        };
-    }
-    let accepted = more_if(true, c.accepted);
-    let windows = more_if(closed, c.windows);
+    let taken = number == 0;
     Counts {
-        accepted,
-        windows,
-        skipped,
+        accepted: more_if(taken, c.accepted),
+        windows: more_if(taken && closed, c.windows),
+        skipped: more_if(skips(number), c.skipped),
     }
 }
 
 // The counts after the flush.
+#[tactic(auto, unfolding(crate::specs::Counting::count_flush))]
 pub fn count_flush(c: Counts, closed: bool) -> Counts
     ensures { result ≡ count_flush c closed }
 {
-    let windows = more_if(closed, c.windows);
     Counts {
-        accepted: c.accepted,
-        windows,
-        skipped: c.skipped,
+        windows: more_if(closed, c.windows),
+        ..c
     }
 }

@@ -7,7 +7,12 @@ use native.Mathlib.Omega.{arith}
 use native.Mathlib.Nat.{eq-or-lt_of_le}
 use mathlib.Core.Logic.{⊎_elim}
 use Rattle.lists.specs.All.{all_to}
-use Rattle.lists.proofs.Tests.{and2}
+use Rattle.std.proofs.lemmas.Bool.{and_parts}
+
+-- one test more
+pub all_to_more : (p : ℕ → Bool) (n : ℕ) → (all_to p n && p n) ≡ all_to p (n + 1)
+unfolding all_to
+all_to_more p n = rw add-one refl
 
 pub record All (p : ℕ → Bool) (n : ℕ) (b : Bool) : Type 0 where
   pub is : b ≡ all_to p n
@@ -28,6 +33,6 @@ pub all_each : (p : ℕ → Bool) (n : ℕ) → all_to p n ≡ true → (k : ℕ
 unfolding all_to
 all_each p zero h k b = absurd (omega arith)
 all_each p (suc n) h k b = ⊎_elim
-    (λ e. rw e (and2 (all_to p n) (p n) h).1)
-    (λ l. all_each p n (and2 _ _ h).0 k l)
+    (λ e. rw e (and_parts (all_to p n) (p n) h).1)
+    (λ l. all_each p n (and_parts _ _ h).0 k l)
     (eq-or-lt_of_le {n = k} {m = n} (omega arith))

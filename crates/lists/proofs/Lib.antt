@@ -5,6 +5,5 @@ pub mod All
 pub mod Paste
 pub mod Row
 pub mod Small
-pub mod Tests
 pub mod Sound
 pub mod Lengths

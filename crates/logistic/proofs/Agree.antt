@@ -1,21 +1,20 @@
 -- Any two replies that a promise of this crate allows agree.
 -- Assumes nothing.
-use Rattle.std.proofs.Common.{◌≡◌, sym, refl, ap, ◌∙◌}
+use Rattle.std.proofs.Common.{◌≡◌, Result, Ok, Err, sym, refl, ap, ◌∙◌}
 use lib.Ieee.{Float}
 use Rattle.logistic.specs.Score.{Answer, taken, refusal, paper, answer_of, presence_score}
-use Rattle.logistic.specs.declared.Logistic.{Logistic}
-use Rattle.logistic.specs.declared.Logistic.TheVariants.{Score, NotANumber}
+use Rattle.logistic.specs.declared.NotANumber.{NotANumber}
 
--- `paper` loses nothing: back from an answer on paper to the code's enum
-abbrev unpaper : Answer → Logistic
-unpaper (taken n s) = Score s
-unpaper (refusal n place) = NotANumber
+-- `paper` loses nothing: back from an answer on paper to the code's
+abbrev unpaper : Answer → Result Float NotANumber
+unpaper (taken n s) = Ok s
+unpaper (refusal n place) = Err record {}
 
-shown : (r : Logistic) → unpaper (paper r) ≡ r
-shown (Score s) = refl
-shown NotANumber = refl
+shown : (r : Result Float NotANumber) → unpaper (paper r) ≡ r
+shown (Ok s) = refl
+shown (Err e) = refl
 
-pub score_agree : (z : Float) (r other : Logistic) → paper r ≡ answer_of z → paper other ≡ answer_of z → r ≡ other
+pub score_agree : (z : Float) (r other : Result Float NotANumber) → paper r ≡ answer_of z → paper other ≡ answer_of z → r ≡ other
 score_agree z r other p q = sym (shown r) ∙ ap unpaper (p ∙ sym q) ∙ shown other
 
 pub presence_agree : (motion threshold r other : Float) → r ≡ presence_score motion threshold → other ≡ presence_score motion threshold → r ≡ other

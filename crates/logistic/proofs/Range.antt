@@ -4,14 +4,14 @@ use Rattle.std.proofs.Common.{◌≡◌, ℕ, ◌+◌, ◌-◌, ◌*◌, ◌/◌
 use lib.Ieee.{Float, nan, inf, fin, up, down, lt, le, ne, is_nan, round, of_bits, binary32}
 use lib.Ieee.Fits.{down_pos}
 use Rattle.logistic.specs.Score.{u_of, sixteen, units_at, score_for, score_of, taken, refusal, answer_of, given}
-use Rattle.floats.proofs.Numbers.{not-false, no_nan}
+use Rattle.floats.proofs.Numbers.{not-false}
 use Rattle.floats.proofs.Order.{not_lt_le}
 use Rattle.logistic.proofs.Floor.{Ranged, size, quotient, u_is, place_at}
 
-pub ranged : (z : Float) → ne z z ≡ false → lt z (sixteen true) ≡ false → lt (sixteen false) z ≡ false → Ranged z
+pub ranged : (z : Float) → is_nan z ≡ false → lt z (sixteen true) ≡ false → lt (sixteen false) z ≡ false → Ranged z
 unfolding is_nan
 ranged z n a b =
-    let p : T (not (is_nan z)) = not-false (is_nan z) (no_nan z n) in
+    let p : T (not (is_nan z)) = not-false (is_nan z) n in
     (not_lt_le z (sixteen true) p tt (not-false (lt z (sixteen true)) a), not_lt_le (sixteen false) z tt p (not-false (lt (sixteen false) z) b))
 
 less : (n d : ℕ) → 1048576 - n / d ≤ 2097152
@@ -51,9 +51,9 @@ by_units z = go (lt z (sixteen true)) (lt (sixteen false) z)
     go false false = refl
 
 -- ---- the answer by the code's tests
-pub refused : (z : Float) → T (ne z z) → refusal 6 0 ≡ answer_of z
-unfolding answer_of is_nan
-refused z t = rw (lib.Ieee.Compare.differs_from_itself z t)
+pub refused : (z : Float) → is_nan z ≡ true → refusal 6 0 ≡ answer_of z
+unfolding answer_of
+refused z e = rw e
 
 pub refused_nan : (z : Float) → refusal 6 0 ≡ answer_of z → z ≡ given (answer_of z)
 unfolding answer_of is_nan

@@ -1,10 +1,9 @@
 -- The logistic score of a float, on exact numbers: document 01, "Logistic table", sentence by sentence. Definitions only.
-use Rattle.std.specs.Prelude.{ℕ, ◌+◌, ◌-◌, ◌*◌, ◌/◌, ◌%◌, Bool, true, false, cond, ℤ, pos, negsuc, ◌+ℤ◌, neg_ℤ, from_bits, is_nan, nat_lt, slice_index, Float}
+use Rattle.std.specs.Prelude.{ℕ, ◌+◌, ◌-◌, ◌*◌, ◌/◌, ◌%◌, Bool, true, false, cond, ℤ, pos, negsuc, ◌+ℤ◌, neg_ℤ, from_bits, is_nan, nat_lt, slice_index, Float, Result, Ok, Err}
 use Rattle.std.specs.Float.{nan, inf, fin, binary32}
 use Rattle.std.specs.Float.Ieee.{up, down, lt, mul, sub, round}
 use Rattle.logistic.specs.Table.{table}
-use Rattle.logistic.specs.declared.Logistic.{Logistic}
-use Rattle.logistic.specs.declared.Logistic.TheVariants.{Score, NotANumber}
+use Rattle.logistic.specs.declared.NotANumber.{NotANumber}
 
 -- "z = (motion - presence_threshold) * 20, in f32"
 unfoldable pub z_of : Float → Float → Float
@@ -61,10 +60,10 @@ unfoldable pub answer_of : Float → Answer
 unfolding score_of
 answer_of z = cond (is_nan z) (refusal 6 0) (taken 0 (score_of z))
 
--- each case of the code's enum on paper
-abbrev pub paper : Logistic → Answer
-paper (Score s) = taken 0 s
-paper NotANumber = refusal 6 0
+-- each case of the code's answer on paper
+abbrev pub paper : Result Float NotANumber → Answer
+paper (Ok s) = taken 0 s
+paper (Err e) = refusal 6 0
 
 -- A window's presence score: the score of its z. Where the logistic refuses it is the NaN, as in the Rust.
 abbrev pub given : Answer → Float

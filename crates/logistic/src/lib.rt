@@ -9,12 +9,9 @@ ghost use Rattle.logistic.specs.Score.{entry_at, units_at, u_of, sixteen, score_
 
 use table::TABLE;
 
-// The score, or the refusal of a NaN: reply 6, place 0.
-#[derive(Clone, Copy)]
-pub enum Logistic {
-    Score(f32),
-    NotANumber,
-}
+// The refusal of a NaN: reply 6, place 0.
+#[derive(Clone, Copy, Debug, PartialEq, Eq)]
+pub struct NotANumber;
 
 // Entry k of the table.
 fn entry(k: usize) -> u32
@@ -69,19 +66,19 @@ fn scaled(n: u32) -> f32
 }
 
 // The score of z.
-pub fn score(z: f32) -> Logistic
+pub fn score(z: f32) -> Result<f32, NotANumber>
     ensures { paper result ≡ answer_of z }
 {
-    if z != z {
-        return Logistic::NotANumber;
+    if z.is_nan() {
+        return Err(NotANumber);
     }
     if z < -16.0 {
-        return Logistic::Score(0.0);
+        return Ok(0.0);
     }
     if z > 16.0 {
-        return Logistic::Score(1.0);
+        return Ok(1.0);
     }
-    Logistic::Score(scaled(units(place(z))))
+    Ok(scaled(units(place(z))))
 }
 
 // A window's presence score, from 0 to 1 where both are finite; a NaN where the logistic refuses.
@@ -89,9 +86,5 @@ pub fn presence_score(motion: f32, presence_threshold: f32) -> f32
     ensures { result ≡ presence_score motion presence_threshold }
 {
     let z = (motion - presence_threshold) * 20.0;
-    let answer = score(z);
-    match answer {
-        Logistic::Score(p) => p,
-        Logistic::NotANumber => z,
-    }
+    score(z).unwrap_or(z)
 }

@@ -2,26 +2,27 @@
 use mathlib.Core.Path.{◌≡◌, refl, sym, ap, ◌∙◌}
 use mathlib.Core.List.{List}
 use lib.Ieee.{Float}
+use Rattle.std.specs.Prelude.{Result}
+use Rattle.buffer_rules.specs.declared.NotAccepted.{NotAccepted}
 use Rattle.buffer_rules.proofs.Agree.{makings_agree}
 use Rattle.window_buffer.proofs.Agree.{replies_agree}
 use Rattle.slots.specs.Adding.{no_detectors, addition_number}
 use Rattle.slots.specs.Adding as Set
-use Rattle.slots.specs.declared.Addition.{Addition}
+use Rattle.slots.specs.declared.AddRefusal.{AddRefusal}
 use Rattle.slots.specs.declared.Adding as Code
 use Rattle.slots.proofs.Agree.{adding_agree}
 use Rattle.pipeline.specs.Making.{Numbered, makes, adds}
 use Rattle.pipeline.specs.Process.{Outcome, outcome}
-use Rattle.pipeline.specs.declared.Made.{Made}
+use Rattle.pipeline.specs.declared.EventPipeline.{EventPipeline}
 use Rattle.pipeline.specs.declared.Added.{Added}
 use Rattle.pipeline.specs.declared.Processed.{Processed}
 
-pub made_agree : (o : Numbered) (r r' : Made) → makes r ≡ o → makes r' ≡ o → r ≡ r'
+pub made_agree : (o : Numbered) (r r' : Result EventPipeline (NotAccepted EventPipeline)) → makes r ≡ o → makes r' ≡ o → r ≡ r'
 made_agree o r r' e f =
     let h : makes r ≡ makes r' = e ∙ sym f in
-    let p : r.making ≡ r'.making = makings_agree r.making r'.making (ap (λ (x : Numbered). x.number) h) in
-    λ t. record { making = p t; pipeline = (h t).pipeline }
+    makings_agree r r' (ap (λ (x : Numbered). x.number) h) (ap (λ (x : Numbered). x.pipeline) h)
 
-additions_agree : (a b : Addition) → addition_number a ≡ addition_number b → a ≡ b
+additions_agree : (a b : Result Unit AddRefusal) → addition_number a ≡ addition_number b → a ≡ b
 additions_agree a b e =
     ap (λ (x : Code.Adding). x.reply)
     (adding_agree (Set.left (addition_number b) no_detectors) (record { reply = a; set = no_detectors }) (record { reply = b; set = no_detectors }) (λ t. record { number = e t; set = no_detectors }) refl)

@@ -1,47 +1,36 @@
 -- What the code does makes the definitions: the tests of the whole, and what follows the buffer. Assumes nothing.
-use Prim.Native.Nat.{ℕ, zero, suc, ◌≤◌, ◌<◌, min}
+use Prim.Native.Nat.{ℕ, zero, suc}
 use mathlib.Core.Path.{◌≡◌, refl, sym, ap, ◌∙◌}
 use mathlib.Core.Bool.{Bool, true, false, ◌&&◌, ◌||◌, false≢true}
 use mathlib.Core.List.{List}
 use native.Mathlib.Omega.{arith}
-use borrow.Author.Tests.{leb-true, leb-false}
 use lib.Dec.{leb}
-use lib.ListN.{length, take}
-use lib.Seq.{take_all}
+use lib.ListN.{length}
 use lib.Ieee.{Float}
+use Rattle.std.specs.Prelude.{Result, Ok, Err}
 use Rattle.rvcsi_core.specs.declared.frame.CsiFrame.{CsiFrame}
-use Rattle.rvcsi_core.specs.declared.window.CsiWindow.{CsiWindow}
 use Rattle.rvcsi_core.specs.declared.ids.Ids.{Ids}
-use Rattle.buffer_rules.specs.Paper.{Returns, nothing, place, window, Answer, answer, numbered, Ruling, fine, refused, ruling}
+use Rattle.buffer_rules.specs.Paper.{Returns, nothing, place, window, Answer, numbered, Ruling, fine, refused, ruling}
 use Rattle.buffer_rules.specs.Frames.{stores_ok, counts_ok, room_ok}
 use Rattle.buffer_rules.specs.State.{empty, state_ok}
 use Rattle.buffer_rules.specs.Rulings.{unless, source_ruling}
 use Rattle.buffer_rules.specs.Rulings as Buffer
 use Rattle.buffer_rules.specs.declared.Refusal.{Refusal}
-use Rattle.buffer_rules.specs.declared.Refusal.TheVariants.{NotExposable, OtherSource, OtherCount, BadCount, NotFinite, LastTime, NoNumber, StoreShort, StateOutOfRange}
-use Rattle.buffer_rules.specs.declared.Verdict.{Verdict}
-use Rattle.buffer_rules.specs.declared.Verdict.TheVariants.{Fine, No}
 use Rattle.buffer_rules.specs.declared.WindowBuffer.{WindowBuffer}
 use Rattle.buffer_rules.proofs.Numbers.{refusal_is, plainly, plain, frame-plain, flush-plain}
 use Rattle.window_buffer.specs.Push.{paper, room_of, take_of, drain_of}
 use Rattle.window_buffer.specs.Push as Push
-use Rattle.window_buffer.specs.declared.Reply.{Reply}
-use Rattle.window_buffer.specs.declared.Reply.TheVariants.{Kept, Closed, Refused}
 use Rattle.window_buffer.specs.declared.Pushed.{Pushed}
 use Rattle.slots.specs.Slots.{set_ok}
-use Rattle.slots.specs.Judging.{judge_of}
-use Rattle.slots.specs.Judging as Judging
 use Rattle.slots.specs.Batches as Batches
 use Rattle.slots.specs.declared.Batch.{Batch}
-use Rattle.slots.specs.declared.Judged.{Judged}
 use Rattle.slots.specs.Limits as Limits
 use Rattle.slots.proofs.Pushes.{nothing_is}
-use Rattle.pipeline.specs.Recents.{cap, remember_of}
+use Rattle.pipeline.specs.Recents.{cap}
 use Rattle.pipeline.specs.Whole.{lent_ok, pipeline_ok, event_room, frame_ruling, flush_ruling, whole_ruling}
-use Rattle.pipeline.specs.Process.{Carried, still, judged, onward_with, onward, Outcome, outcome, carry, carried, joins, refused_of, ruled, process_of, flush_of}
+use Rattle.pipeline.specs.Process.{Carried, still, onward_with, onward, Outcome, outcome, carry, carried, joins, refused_of, ruled, process_of, flush_of}
 use Rattle.pipeline.specs.declared.EventPipeline.{EventPipeline}
 use Rattle.pipeline.specs.declared.Processed.{Processed}
-use Rattle.pipeline.specs.declared.recent.Recent.{Recent}
 
 -- ---- the buffer's answer
 
@@ -52,51 +41,6 @@ module _ (i : Ids) (b : WindowBuffer) (p : EventPipeline) (means base : List Flo
   plain_still a (suc k) nothing h = refl
   plain_still a (suc k) (place n) h = refl
   plain_still a (suc k) (window w n) h = absurd (false≢true h)
-
-  numbered-plain : (why : Refusal) → plain (numbered why) ≡ true
-  numbered-plain NotExposable = refl
-  numbered-plain OtherSource = refl
-  numbered-plain OtherCount = refl
-  numbered-plain BadCount = refl
-  numbered-plain (NotFinite n) = refl
-  numbered-plain LastTime = refl
-  numbered-plain NoNumber = refl
-  numbered-plain StoreShort = refl
-  numbered-plain StateOutOfRange = refl
-
-  -- the code's other arm
-  other-still : (r : Reply) → ((w : CsiWindow) (n : ℕ) → r ≡ Closed w n → ⊥) → onward (paper r) i b p means base ≡ still (paper r) i b p base
-  other-still Kept k = refl
-  other-still (Closed w n) k = absurd (k w n refl)
-  other-still (Refused why) k = plain_still (numbered why) (numbered why).number (numbered why).returns (numbered-plain why)
-
-  pub rests : (r : Reply) (e : Batch) → ((w : CsiWindow) (n : ℕ) → r ≡ Closed w n → ⊥) → e ≡ Batches.nothing
-      → record { reply = paper r; ids = i; pipeline = record { buffer = b; detectors = p.detectors; recent = p.recent }; batch = e; baseline = base } ≡ onward (paper r) i b p means base
-  rests r e k h =
-      (λ t. record { reply = paper r; ids = i; pipeline = record { buffer = b; detectors = p.detectors; recent = p.recent }; batch = (h ∙ nothing_is) t; baseline = base })
-      ∙ sym (other-still r k)
-
--- the first n, or all
-take_shorter : (n : ℕ) (l : List Float) → take (min n (length l)) l ≡ take n l
-take_shorter n l = go (leb n (length l)) refl
-  where
-    go : (t : Bool) → t ≡ leb n (length l) → take (min n (length l)) l ≡ take n l
-    go true e =
-        let h : n ≤ length l = leb-true _ _ (sym e) in
-        let m : min n (length l) ≡ n = omega arith in
-        ap (λ (k : ℕ). take k l) m
-    go false e = let h : length l < n = leb-false _ _ (sym e) in
-        take_all (min n (length l)) l (omega arith) ∙ sym (take_all n l (omega arith))
-
-pub closes : (r : Reply) (w : CsiWindow) (n : ℕ) → r ≡ Closed w n → (i : Ids) (b : WindowBuffer) (p : EventPipeline) (means base l : List Float) (j : Judged) (m : ℕ) (kept : Recent)
-    → m ≡ min n (length means) → Judging.outcome j l ≡ judge_of i p.detectors w (take m means) base → kept ≡ remember_of p.recent w
-    → record { reply = answer 0 (window w n); ids = j.ids; pipeline = record { buffer = b; detectors = j.set; recent = kept }; batch = j.batch; baseline = l } ≡ onward (paper r) i b p means base
-closes r w n e i b p means base l j m kept em ej ek =
-    let ej' : Judging.outcome j l ≡ judge_of i p.detectors w (take n means) base
-    = ej ∙ ap (λ (x : List Float). judge_of i p.detectors w x base) (ap (λ (k : ℕ). take k means) em ∙ take_shorter n means) in
-    let first : record { reply = answer 0 (window w n); ids = j.ids; pipeline = record { buffer = b; detectors = j.set; recent = kept }; batch = j.batch; baseline = l } ≡ judged (answer 0 (window w n)) b w p (Judging.outcome j l)
-    = λ t. record { reply = answer 0 (window w n); ids = j.ids; pipeline = record { buffer = b; detectors = j.set; recent = ek t }; batch = j.batch; baseline = l } in
-    first ∙ ap (judged (answer 0 (window w n)) b w p) ej' ∙ sym (ap (λ (x : Reply). onward (paper x) i b p means base) e)
 
 -- ---- the tests of the whole
 
@@ -182,14 +126,14 @@ flush_follows i pl A P B M W =
 
 -- ---- as the code returns it
 module _ {i : Ids} {pl : EventPipeline} {A P B M W : List Float} {o : Push.Outcome} {out : Outcome} (g : Follows i pl A P B M W o out)
-    (v : Verdict) (is-v : ruling v ≡ whole_ruling (room_of A P M W) (length B) pl.detectors pl.recent.count) where
-  pub refused-by : (why : Refusal) (e : Batch) → v ≡ No why → e ≡ Batches.nothing
+    (v : Result Unit Refusal) (is-v : ruling v ≡ whole_ruling (room_of A P M W) (length B) pl.detectors pl.recent.count) where
+  pub refused-by : (why : Refusal) (e : Batch) → v ≡ Err why → e ≡ Batches.nothing
       → record { reply = numbered why; ids = i; pipeline = pl; batch = e; amplitudes = A; phases = P; baseline = B; means = M; variances = W } ≡ out
   refused-by why e h k =
       (λ t. record { reply = numbered why; ids = i; pipeline = pl; batch = (k ∙ nothing_is) t; amplitudes = A; phases = P; baseline = B; means = M; variances = W })
       ∙ g.refuses (numbered why) (sym (ap ruling h) ∙ is-v)
 
-  pub taken-by : v ≡ Fine → (p : Pushed) (r : Processed) (A' P' B' M' W' : List Float) → Push.outcome (paper p.reply) p.ids p.buffer A' P' M' W' ≡ o
+  pub taken-by : v ≡ Ok tt → (p : Pushed) (r : Processed) (A' P' B' M' W' : List Float) → Push.outcome (paper p.reply) p.ids p.buffer A' P' M' W' ≡ o
       → carried r B' ≡ onward (paper p.reply) p.ids p.buffer pl M' B → outcome r A' P' B' M' W' ≡ out
   taken-by h p r A' P' B' M' W' is-o is-r =
       both_calls r A' P' B' M' W' _ (Push.outcome (paper p.reply) p.ids p.buffer A' P' M' W') is-r refl refl refl refl

@@ -1,9 +1,11 @@
 -- Making a pipeline, and adding a detector to it.
-use Rattle.std.specs.Prelude.{ℕ, cond, [], ◌∷◌}
+use Rattle.std.specs.Prelude.{Result, ℕ, cond, [], ◌∷◌}
 use Rattle.buffer_rules.specs.Settings.{settings_ok, defaults}
 use Rattle.buffer_rules.specs.State.{fresh_of}
-use Rattle.buffer_rules.specs.Paper.{made_number}
+use Rattle.buffer_rules.specs.Paper.{made_number, made}
 use Rattle.buffer_rules.specs.declared.WindowBufferConfig.{WindowBufferConfig}
+use Rattle.buffer_rules.specs.declared.WindowBuffer.{WindowBuffer}
+use Rattle.buffer_rules.specs.declared.NotAccepted.{NotAccepted}
 use Rattle.detectors.specs.Presence.{presence_default, presence_fresh}
 use Rattle.detectors.specs.Motion.{motion_default, motion_fresh}
 use Rattle.detectors.specs.Quality.{quality_default, quality_fresh}
@@ -17,7 +19,6 @@ use Rattle.slots.specs.declared.Slot.{Slot}
 use Rattle.pipeline.specs.Recents.{none_kept}
 use Rattle.pipeline.specs.Whole.{pipeline_ok}
 use Rattle.pipeline.specs.declared.EventPipeline.{EventPipeline}
-use Rattle.pipeline.specs.declared.Made.{Made}
 use Rattle.pipeline.specs.declared.Added.{Added}
 
 -- the reply's number, and the pipeline beside it
@@ -30,8 +31,12 @@ numbered n p = record { number = n; pipeline = p }
 
 -- ---- making
 
-abbrev pub makes : Made → Numbered
-makes r = numbered (made_number r.making) r.pipeline
+abbrev pub makes : Result EventPipeline (NotAccepted EventPipeline) → Numbered
+makes r = numbered (made_number r) (made r)
+
+-- a buffer, with no detector and no recent window
+abbrev pub around : WindowBuffer → EventPipeline
+around b = record { buffer = b; detectors = no_detectors; recent = none_kept }
 
 -- no frame pending, no detector, no recent window; 1 "settings not accepted"
 unfoldable pub new_of : ℕ → ℕ → WindowBufferConfig → Numbered

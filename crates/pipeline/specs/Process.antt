@@ -1,12 +1,14 @@
 -- What a frame and a flush make of all that goes in: the reply, the counters, the state, the events and every lent list.
-use Rattle.std.specs.Prelude.{List, [], length, take, Float}
+use Rattle.std.specs.Prelude.{Err, List, [], length, take, Float}
 use Rattle.rvcsi_core.specs.declared.frame.CsiFrame.{CsiFrame}
 use Rattle.rvcsi_core.specs.declared.window.CsiWindow.{CsiWindow}
 use Rattle.rvcsi_core.specs.declared.ids.Ids.{Ids}
 use Rattle.buffer_rules.specs.Paper.{Returns, nothing, place, window, Answer, Ruling, fine, refused}
 use Rattle.buffer_rules.specs.declared.WindowBuffer.{WindowBuffer}
+use Rattle.buffer_rules.specs.declared.Refusal.{Refusal}
 use Rattle.window_buffer.specs.Push.{paper, room_of, take_of, drain_of}
 use Rattle.window_buffer.specs.Push as Push
+use Rattle.window_buffer.specs.declared.Pushed.{Pushed}
 use Rattle.slots.specs.Batches.{batch_of}
 use Rattle.slots.specs.Judging.{judge_of}
 use Rattle.slots.specs.Judging as Judging
@@ -28,6 +30,14 @@ pub record Carried : Type 0 where
 
 abbrev pub carried : Processed → List Float → Carried
 carried r l = record { reply = paper r.reply; ids = r.ids; pipeline = r.pipeline; batch = r.batch; baseline = l }
+
+-- the code's reply where no window closed
+abbrev pub stays : Pushed → EventPipeline → Processed
+stays o p = record { reply = o.reply; ids = o.ids; pipeline = record { buffer = o.buffer; detectors = p.detectors; recent = p.recent }; batch = batch_of [] }
+
+-- what a refusal hands on: the counters and the buffer as they came
+abbrev pub turned_away : Refusal → Ids → EventPipeline → Pushed
+turned_away why i p = record { reply = Err why; ids = i; buffer = p.buffer }
 
 -- no window: the buffer is as it came, and no event is returned
 abbrev pub still : Answer → Ids → WindowBuffer → EventPipeline → List Float → Carried

@@ -1,5 +1,5 @@
 // The newest 32 windows, newest last.
-ghost use Rattle.std.specs.Prelude.{◌≡◌, ◌∷◌, ◌++◌, [], drop};
+ghost use Rattle.std.specs.Prelude.{◌≡◌};
 ghost use Rattle.pipeline.specs.Recents.{none_kept, remember_of};
 
 use rvcsi_core::window::CsiWindow;
@@ -7,14 +7,16 @@ use rvcsi_core::window::CsiWindow;
 // How many windows are kept.
 pub const RECENT_WINDOW_CAP: usize = 32;
 
-// The scalar fields of the newest windows, oldest first: the first `count` places.
+// The scalar fields of the newest windows, oldest first: the first `count` places of an array, since the state travels by value and there is no heap.
+// A state may come with any count; one past the end is out of range.
 #[derive(Clone, Copy)]
 pub struct Recent {
     pub windows: [CsiWindow; RECENT_WINDOW_CAP],
     pub count: usize,
 }
 
-// No window yet.
+// No window yet. No `Default`: what the places hold beside a count of 0 says nothing.
+#[tactic(auto, unfolding(crate::specs::Recents::none_kept))]
 pub fn none_kept() -> Recent
     ensures { result ≡ none_kept }
 {
@@ -35,32 +37,23 @@ pub fn none_kept() -> Recent
     }
 }
 
-// The oldest goes, and w comes behind the others.
-fn shifted(old: [CsiWindow; RECENT_WINDOW_CAP], w: CsiWindow) -> [CsiWindow; RECENT_WINDOW_CAP]
-    ensures { result ≡ drop 1 old ++ (w ∷ []) }
-{
-    let mut new = old;
-    for k in 0..31 {
-        new[k] = old[k + 1];
-    }
-    new[31] = w;
-    new
-}
-
 // The window joins the others; of more than 32 the oldest goes.
+#[tactic(auto, using(crate::proofs::Windows::shifted_is), unfolding(crate::specs::Recents::remember_of))]
 pub fn remember(r: Recent, w: CsiWindow) -> Recent
     ensures { result ≡ remember_of r w }
 {
-    let at = r.count;
-    if at < RECENT_WINDOW_CAP {
-        let mut out = r;
-        out.windows[at] = w;
-        out.count = at + 1;
-        return out;
+    let mut windows = r.windows;
+    if r.count < RECENT_WINDOW_CAP {
+        windows[r.count] = w;
+        return Recent {
+            windows,
+            count: r.count + 1,
+        };
     }
-    let old = r.windows;
+    windows.rotate_left(1);
+    windows[31] = w;
     Recent {
-        windows: shifted(old, w),
+        windows,
         count: RECENT_WINDOW_CAP,
     }
 }

@@ -4,12 +4,11 @@ use mathlib.Core.Path.{◌≡◌, refl, sym, ap, subst, ◌∙◌}
 use mathlib.Core.Bool.{Bool, true, false, ◌&&◌, cond}
 use mathlib.Core.List.{List}
 use native.Mathlib.Omega.{arith}
-use borrow.Author.Tests.{leb-true}
+use Rattle.std.proofs.lemmas.Bool.{leb-true, and_parts}
 use lib.Dec.{T, leb, ltb}
 use lib.ListN.{length}
 use lib.Ieee.{Float, of_bits, le}
 use lib.Ieee.Scale.{finite}
-use Rattle.lists.proofs.Tests.{and2}
 use Rattle.rvcsi_core.specs.Counters.{fresh_ids}
 use Rattle.detectors.specs.Presence.{presence_default, presence_accepted, presence_in}
 use Rattle.detectors.specs.declared.presence.PresenceConfig.{PresenceConfig}
@@ -45,9 +44,9 @@ module _ {session source : ℕ} {b : WindowBufferConfig} {v : World} (f : Begun 
   pub begun-sound : Sound v
   unfolding lent_ok pipeline_ok fresh_of
   begun-sound =
-      let l = and2 (stores_ok (room_of v.amplitudes v.phases v.means v.variances)) (leb Limits.room_of (length v.baseline)) f.lent in
-      let p = and2 (set_ok v.pipeline.detectors) (leb v.pipeline.recent.count cap && state_ok v.pipeline.buffer) f.in_range in
-      let q = and2 (leb v.pipeline.recent.count cap) (state_ok v.pipeline.buffer) p.1 in
+      let l = and_parts (stores_ok (room_of v.amplitudes v.phases v.means v.variances)) (leb Limits.room_of (length v.baseline)) f.lent in
+      let p = and_parts (set_ok v.pipeline.detectors) (leb v.pipeline.recent.count cap && state_ok v.pipeline.buffer) f.in_range in
+      let q = and_parts (leb v.pipeline.recent.count cap) (state_ok v.pipeline.buffer) p.1 in
       let s = stores_fact (room_of v.amplitudes v.phases v.means v.variances) l.0 in
       record {
         buffer =
@@ -80,7 +79,7 @@ module _ {session source : ℕ} {b : WindowBufferConfig} {v : World} (f : Begun 
   unfolding presence_in
   begun-accepted c i h =
       let g = set_in v.pipeline.detectors begun-sound.detectors.ok in
-      (and2 (presence_accepted c) (ltb 0 c.enter_windows) (subst (λ (d : Detector). detector_in d ≡ true) h.presence (g.all_in i h.added))).0
+      (and_parts (presence_accepted c) (ltb 0 c.enter_windows) (subst (λ (d : Detector). detector_in d ≡ true) h.presence (g.all_in i h.added))).0
 
 -- ---- what is one
 
@@ -138,7 +137,7 @@ module _ {session source : ℕ} {b : WindowBufferConfig} {v : World} (f : Begun 
 
   with-ok : (d : Detectors) → set_ok d ≡ true → pipeline_ok (with_detectors v.pipeline d) ≡ true
   unfolding pipeline_ok
-  with-ok d ok = rw ok (and2 (set_ok v.pipeline.detectors) (leb v.pipeline.recent.count cap && state_ok v.pipeline.buffer) f.in_range).1
+  with-ok d ok = rw ok (and_parts (set_ok v.pipeline.detectors) (leb v.pipeline.recent.count cap && state_ok v.pipeline.buffer) f.in_range).1
 
   set-held : Held (add_of v.pipeline.detectors e).set
   set-held = add_held v.pipeline.detectors e (begun-sound f).detectors

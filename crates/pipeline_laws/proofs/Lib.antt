@@ -1,6 +1,7 @@
 -- Laws of the pipeline over any calls, for a reader: Totals, Owed, Defaults, FewCalls, Hearing, Tilted, Together, Beginning, Keen (demand 3) and Example.
--- Following, Lengths, NotEight and Scoring serve their proofs.
+-- Following, Cases, Lengths, NotEight and Scoring serve their proofs.
 pub mod Following
+pub mod Cases
 pub mod Totals
 pub mod Lengths
 pub mod Owed

@@ -1,7 +1,8 @@
 -- A call of the buffer that is not answered 8 goes as if there were numbers for its events, and the event counter passes through it. Assumes nothing.
+use Rattle.std.specs.Prelude.{Option, Some, None}
 use Prim.Native.Nat.{ℕ, ◌*◌}
 use mathlib.Core.Path.{◌≡◌, refl, ap, ◌∙◌}
-use mathlib.Core.Bool.{Bool, true, false, not, ◌&&◌, ◌||◌, cond}
+use mathlib.Core.Bool.{Bool, true, false, not, ◌&&◌, ◌||◌}
 use mathlib.Core.Logic.{◌⊎◌, inl, inr}
 use mathlib.Core.List.{List}
 use lib.Dec.{eqb}
@@ -14,8 +15,6 @@ use Rattle.rvcsi_core.specs.declared.frame.CsiFrame.{CsiFrame}
 use Rattle.rvcsi_core.specs.declared.ids.Ids.{Ids}
 use Rattle.frame_stats.specs.Scale.{scale_of}
 use Rattle.frame_stats.specs.Scan.{frame_scan}
-use Rattle.frame_stats.specs.declared.Scan.{Scan}
-use Rattle.frame_stats.specs.declared.Scan.TheVariants.{Clean, At}
 use Rattle.buffer_rules.specs.Paper.{nothing, answer, Ruling, fine, refused}
 use Rattle.buffer_rules.specs.State.{empty, state_ok}
 use Rattle.buffer_rules.specs.Frames.{stores_ok, counts_ok, source_ok, same_count, time_ok, closes, room_ok, numbers_ok}
@@ -24,6 +23,7 @@ use Rattle.buffer_rules.specs.declared.Room.{Room}
 use Rattle.buffer_rules.specs.declared.WindowBuffer.{WindowBuffer}
 use Rattle.window_buffer.specs.Window.{accepted_of}
 use Rattle.window_buffer.specs.Push.{Outcome, outcome, room_of, refused_of, ruled, close_of, take_of, push_of, drain_of, flush_of}
+use Rattle.pipeline_laws.proofs.Cases.{cond_made}
 
 -- ---- a ruling that is 8, or the other one
 abbrev Or8 : Ruling → Ruling → Type 0
@@ -33,9 +33,9 @@ past_test : (b : Bool) (n : ℕ) (x y : Ruling) → Or8 x y → Or8 (unless b n 
 past_test true n x y h = h
 past_test false n x y h = inr refl
 
-past_scan : (s : Scan) (x y : Ruling) → Or8 x y → Or8 (scanned s x) (scanned s y)
-past_scan Clean x y h = h
-past_scan (At p) x y h = inr refl
+past_scan : (s : Option ℕ) (x y : Ruling) → Or8 x y → Or8 (scanned s x) (scanned s y)
+past_scan None x y h = h
+past_scan (Some p) x y h = inr refl
 
 at_last : (still room e : Bool) → Or8 (unless (still || (room && e)) 8 fine) (unless (still || (room && true)) 8 fine)
 at_last true room e = inr refl
@@ -83,16 +83,12 @@ ruled_evented : (n : ℕ) (i : Ids) (b : WindowBuffer) (A P M W : List Float) (x
 ruled_evented n i b A P M W fine o = refl
 ruled_evented n i b A P M W (refused why) o = refl
 
-cond_evented : (n : ℕ) (t : Bool) (x y : Outcome) → cond t (evented n x) (evented n y) ≡ evented n (cond t x y)
-cond_evented n true x y = refl
-cond_evented n false x y = refl
-
 module _ (n : ℕ) (i : Ids) (e : Bool) (b : WindowBuffer) where
   pub push-evented : (f : CsiFrame) (a p q A P M W : List Float) → push_of (at_event n i) e b f a p q A P M W ≡ evented n (push_of i e b f a p q A P M W)
   unfolding push_of take_of close_of frame_ruling source_ruling value_ruling late_ruling numbers_ok room_ok
   push-evented f a p q A P M W =
       ap (λ (o : Outcome). ruled (frame_ruling (room_of A P M W) i e b f a p q) o (λ why. refused_of why (at_event n i) b A P M W))
-      (cond_evented n (closes b f.timestamp_ns) (close_of i (accepted_of b f (scale_of q a)) (paste A (256 * b.pending) a (length a)) (paste P (256 * b.pending) p (length p)) M W)
+      (cond_made (evented n) (closes b f.timestamp_ns) (close_of i (accepted_of b f (scale_of q a)) (paste A (256 * b.pending) a (length a)) (paste P (256 * b.pending) p (length p)) M W)
       (outcome (answer 0 nothing) i (accepted_of b f (scale_of q a)) (paste A (256 * b.pending) a (length a)) (paste P (256 * b.pending) p (length p)) M W))
       ∙ ruled_evented n i b A P M W (frame_ruling (room_of A P M W) i e b f a p q) (take_of i b f a p q A P M W)
 
@@ -100,5 +96,5 @@ module _ (n : ℕ) (i : Ids) (e : Bool) (b : WindowBuffer) where
   unfolding flush_of drain_of close_of flush_ruling room_ok
   flush-evented A P M W =
       ap (λ (o : Outcome). ruled (flush_ruling (room_of A P M W) i e b) o (λ why. refused_of why (at_event n i) b A P M W))
-      (cond_evented n (empty b) (outcome (answer 0 nothing) i b A P M W) (close_of i b A P M W))
+      (cond_made (evented n) (empty b) (outcome (answer 0 nothing) i b A P M W) (close_of i b A P M W))
       ∙ ruled_evented n i b A P M W (flush_ruling (room_of A P M W) i e b) (drain_of i b A P M W)

@@ -1,21 +1,21 @@
 -- Reply 0 is owed, over any calls from fresh: 14 never comes, a frame that nothing refuses is taken, a window that closes is judged, and every event
 -- is valid. Assumes nothing.
-use Prim.Native.Nat.{ℕ, ◌+◌, ◌≤◌, ◌<◌}
+use Rattle.std.specs.Prelude.{None}
+use Prim.Native.Nat.{ℕ, ◌≤◌, ◌<◌}
 use mathlib.Core.Path.{◌≡◌, refl, sym, ap, subst, ◌∙◌}
-use mathlib.Core.Bool.{Bool, true, false, not, cond}
-use mathlib.Core.List.{List, [], ◌∷◌, ◌++◌}
+use mathlib.Core.Bool.{Bool, true, false, not}
+use mathlib.Core.List.{List, [], ◌∷◌}
 use native.Mathlib.Omega.{arith}
-use borrow.Author.Tests.{le-leb, leb-true, ltb-true, not-true, eqb-false}
+use Rattle.std.proofs.lemmas.Bool.{le-leb, leb-true, ltb-true, not-true, eqb-false, cond_both}
 use lib.Dec.{ltb, eqb}
-use lib.ListN.{length, set, take, drop, length-take}
+use lib.ListN.{length, take, length-take}
 use lib.Ieee.{Float}
 use Rattle.rvcsi_core.specs.declared.frame.CsiFrame.{CsiFrame}
 use Rattle.rvcsi_core.specs.declared.window.CsiWindow.{CsiWindow}
 use Rattle.rvcsi_core.specs.declared.ids.Ids.{Ids}
 use Rattle.rvcsi_core.specs.Frame.{exposable}
 use Rattle.frame_stats.specs.Scan.{frame_scan}
-use Rattle.frame_stats.specs.declared.Scan.TheVariants.{Clean}
-use Rattle.buffer_rules.specs.Paper.{Returns, nothing, place, window, Answer, Ruling, fine, refused}
+use Rattle.buffer_rules.specs.Paper.{Returns, nothing, place, window, Answer, Ruling, fine}
 use Rattle.buffer_rules.specs.Settings.{settings_ok}
 use Rattle.buffer_rules.specs.Frames.{stores_ok, counts_ok, source_ok, same_count, time_ok, room_ok, numbers_ok}
 use Rattle.buffer_rules.specs.Rulings as Rulings
@@ -42,6 +42,7 @@ use Rattle.pipeline.specs.declared.EventPipeline.{EventPipeline}
 use Rattle.pipeline.specs.declared.recent.Recent.{Recent}
 use Rattle.pipeline_laws.specs.Calls.{World, Call, framed, flushed, called, left, after}
 use Rattle.pipeline_laws.proofs.Following.{buffered, follows}
+use Rattle.window_buffer.proofs.Cases.{by_ruling}
 use Rattle.pipeline_laws.proofs.Lengths.{Long, push_long, flush_long}
 use Rattle.pipeline_laws.proofs.Totals.{onward_counts}
 
@@ -78,12 +79,8 @@ carries c v s = (follows c v).goes_on (whole_yes v s)
 -- ---- what a call leaves is in range again
 remember_few : (r : Recent) (w : CsiWindow) → r.count ≤ cap → (remember_of r w).count ≤ cap
 unfolding remember_of
-remember_few r w h = go (ltb r.count cap) refl
-  where
-    go : (t : Bool) → t ≡ ltb r.count cap
-        → (cond {A = Recent} t (record { windows = set r.windows r.count w; count = r.count + 1 }) (record { windows = drop 1 r.windows ++ (w ∷ []); count = cap })).count ≤ cap
-    go true e = let k : r.count < cap = ltb-true _ _ (sym e) in omega arith
-    go false e = omega arith
+remember_few r w h =
+    cond_both (ltb r.count cap) _ _ (λ (x : Recent). x.count ≤ cap) (λ e. let k : r.count < cap = ltb-true _ _ e in omega arith) (λ e. omega arith)
 
 record OnwardSound (base : List Float) (c : Carried) : Type 0 where
   detectors : Held c.pipeline.detectors
@@ -151,7 +148,7 @@ after_sound (c ∷ cs) v s = call_sound c (after cs v) (after_sound cs v s)
 -- ---- a frame that nothing refuses is taken
 pub frame_owed : (v : World) → Sound v → (f : CsiFrame) (a p q : List Float)
     → counts_ok f (length a) (length p) (length q) ≡ true → exposable f ≡ true → source_ok v.pipeline.buffer f ≡ true → same_count v.pipeline.buffer f ≡ true
-    → frame_scan f.quality_score a p q ≡ Clean → time_ok v.pipeline.buffer f.timestamp_ns ≡ true → numbers_ok v.ids (event_room v.ids) v.pipeline.buffer f.timestamp_ns ≡ true
+    → frame_scan f.quality_score a p q ≡ None → time_ok v.pipeline.buffer f.timestamp_ns ≡ true → numbers_ok v.ids (event_room v.ids) v.pipeline.buffer f.timestamp_ns ≡ true
     → (called (framed f a p q) v).reply.number ≡ 0
 frame_owed v s f a p q counts flag source count values time numbers =
     ap (λ (x : Answer). x.number) (passed (framed f a p q) v s).reply
@@ -180,8 +177,7 @@ other m a = not (eqb a.number m)
 
 ruled_other : (m : ℕ) → eqb 0 m ≡ false → (x : Ruling) (o : Push.Outcome) (i : Ids) (b : WindowBuffer) (A P M W : List Float) → refusal_is (other m) x ≡ true → o.reply.number ≡ 0
     → eqb (Push.ruled x o (λ why. Push.refused_of why i b A P M W)).reply.number m ≡ false
-ruled_other m k fine o i b A P M W h z = rw z k
-ruled_other m k (refused why) o i b A P M W h z = not-true (eqb why.number m) h
+ruled_other m k x o i b A P M W h z = by_ruling (λ (r : Push.Outcome). eqb r.reply.number m ≡ false) (other m) x o _ h (λ f. rw z k) (λ why g. not-true (eqb why.number m) g)
 
 buffer_other : (m : ℕ) → eqb 0 m ≡ false → (c : Call) (v : World) → refusal_is (other m) (ruling c v) ≡ true → eqb (buffered c v).reply.number m ≡ false
 unfolding Push.push_of Push.flush_of

@@ -1,8 +1,8 @@
 -- Two buffers that differ in the presence threshold alone: the same frames are taken and the same windows close, and each score is the one of its own
 -- threshold, no lower under the lower one. Assumes nothing.
-use Prim.Native.Nat.{ℕ, zero, suc, ◌*◌}
-use mathlib.Core.Path.{◌≡◌, refl, sym, ap, ◌∙◌}
-use mathlib.Core.Bool.{Bool, true, false, cond, false≢true}
+use Prim.Native.Nat.{ℕ, ◌*◌}
+use mathlib.Core.Path.{◌≡◌, refl, ap, ◌∙◌}
+use mathlib.Core.Bool.{Bool, true}
 use mathlib.Core.Logic.{inr}
 use mathlib.Core.List.{List}
 use lib.Dec.{T}
@@ -29,9 +29,11 @@ use Rattle.buffer_rules.specs.Rulings.{late_ruling, value_ruling, source_ruling,
 use Rattle.buffer_rules.specs.declared.WindowBuffer.{WindowBuffer}
 use Rattle.buffer_rules.specs.declared.WindowBufferConfig.{WindowBufferConfig}
 use Rattle.buffer_rules.specs.declared.Room.{Room}
-use Rattle.buffer_rules.proofs.Numbers.{refusal_is, plainly, plain, frame-plain, flush-plain}
+use Rattle.buffer_rules.proofs.Numbers.{refusal_is, plain, frame-plain, flush-plain}
 use Rattle.window_buffer.specs.Window.{accepted_of, emptied, window_of}
 use Rattle.window_buffer.specs.Push.{Outcome, outcome, room_of, refused_of, ruled, close_of, take_of, push_of, drain_of, flush_of}
+use Rattle.pipeline_laws.proofs.Cases.{cond_made}
+use Rattle.window_buffer.proofs.Cases.{by_plain}
 
 -- the buffer with another threshold
 abbrev pub tilted_cfg : Float → WindowBufferConfig → WindowBufferConfig
@@ -75,12 +77,6 @@ abbrev pub tilted_outcome : Float → Outcome → Outcome
 tilted_outcome t o =
     outcome (answer o.reply.number (rescored_returns t o.reply.returns)) o.ids (tilted t o.buffer) o.amplitudes o.phases o.means o.variances
 
-plain_same : (t : Float) (k : ℕ) (r : Returns) → plainly k r ≡ true → rescored_returns t r ≡ r
-plain_same t zero r h = absurd (false≢true h)
-plain_same t (suc k) nothing h = refl
-plain_same t (suc k) (place p) h = refl
-plain_same t (suc k) (window w n) h = absurd (false≢true h)
-
 module _ (t : Float) (i : Ids) (e : Bool) (b : WindowBuffer) (ok : settings_ok b.cfg ≡ true) (ok' : settings_ok (tilted_cfg t b.cfg) ≡ true) where
   frame_same : (r : Room) (f : CsiFrame) (a p q : List Float) → frame_ruling r i e (tilted t b) f a p q ≡ frame_ruling r i e b f a p q
   unfolding frame_ruling source_ruling value_ruling late_ruling state_ok pending_ok first_ok values_ok width_ok source_ok same_count time_ok numbers_ok closes first_of
@@ -94,25 +90,16 @@ ruled_tilted : (t : Float) (i : Ids) (b : WindowBuffer) (A P M W : List Float) (
     → ruled x o' (λ why. refused_of why i (tilted t b) A P M W) ≡ tilted_outcome t (ruled x o (λ why. refused_of why i b A P M W))
 ruled_tilted t i b A P M W fine o o' h g = g
 ruled_tilted t i b A P M W (refused why) o o' h g =
-    let s = sym (plain_same t why.number why.returns h) in
+    let s = by_plain (λ r. r ≡ rescored_returns t r) refl (λ p. refl) why h in
     λ k. outcome (answer why.number (s k)) i (tilted t b) A P M W
 
 -- ---- a call of the buffer with the other threshold
 module _ (t : Float) (i : Ids) (e : Bool) (b : WindowBuffer) (ok : settings_ok b.cfg ≡ true) (ok' : settings_ok (tilted_cfg t b.cfg) ≡ true) where
   take-tilted : (f : CsiFrame) (a p q A P M W : List Float) → take_of i (tilted t b) f a p q A P M W ≡ tilted_outcome t (take_of i b f a p q A P M W)
   unfolding take_of closes first_of accepted_of close_of window_of emptied fresh_of
-  take-tilted f a p q A P M W = go (closes b f.timestamp_ns)
-    where
-      A' : List Float
-      A' = paste A (256 * b.pending) a (length a)
-
-      P' : List Float
-      P' = paste P (256 * b.pending) p (length p)
-
-      go : (c : Bool) → cond c (close_of i (accepted_of (tilted t b) f (scale_of q a)) A' P' M W) (outcome (answer 0 nothing) i (accepted_of (tilted t b) f (scale_of q a)) A' P' M W)
-          ≡ tilted_outcome t (cond c (close_of i (accepted_of b f (scale_of q a)) A' P' M W) (outcome (answer 0 nothing) i (accepted_of b f (scale_of q a)) A' P' M W))
-      go true = refl
-      go false = refl
+  take-tilted f a p q A P M W =
+      cond_made (tilted_outcome t) (closes b f.timestamp_ns) (close_of i (accepted_of b f (scale_of q a)) (paste A (256 * b.pending) a (length a)) (paste P (256 * b.pending) p (length p)) M W)
+      (outcome (answer 0 nothing) i (accepted_of b f (scale_of q a)) (paste A (256 * b.pending) a (length a)) (paste P (256 * b.pending) p (length p)) M W)
 
   pub push-tilted : (f : CsiFrame) (a p q A P M W : List Float) → push_of i e (tilted t b) f a p q A P M W ≡ tilted_outcome t (push_of i e b f a p q A P M W)
   unfolding push_of
@@ -122,11 +109,7 @@ module _ (t : Float) (i : Ids) (e : Bool) (b : WindowBuffer) (ok : settings_ok b
 
   drain-tilted : (A P M W : List Float) → drain_of i (tilted t b) A P M W ≡ tilted_outcome t (drain_of i b A P M W)
   unfolding drain_of close_of window_of emptied fresh_of
-  drain-tilted A P M W = go (empty b)
-    where
-      go : (c : Bool) → cond c (outcome (answer 0 nothing) i (tilted t b) A P M W) (close_of i (tilted t b) A P M W) ≡ tilted_outcome t (cond c (outcome (answer 0 nothing) i b A P M W) (close_of i b A P M W))
-      go true = refl
-      go false = refl
+  drain-tilted A P M W = cond_made (tilted_outcome t) (empty b) (outcome (answer 0 nothing) i b A P M W) (close_of i b A P M W)
 
   pub flush-tilted : (A P M W : List Float) → flush_of i e (tilted t b) A P M W ≡ tilted_outcome t (flush_of i e b A P M W)
   unfolding flush_of

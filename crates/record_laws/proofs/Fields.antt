@@ -18,7 +18,6 @@ use Rattle.records.proofs.Groups.{room, bytes_last, bytes_more}
 use Rattle.records.proofs.WritingNumbers.{long}
 use Rattle.records.proofs.Steps.{passed}
 use Rattle.record_laws.proofs.Numbers.{Bytes, read_written, written_read, number_stable, number_cut, no_fault}
-use Rattle.records.proofs.Contradiction.{zero_one}
 
 -- ---- a field
 -- its bytes, what it can hold, and its most bytes
@@ -152,9 +151,9 @@ number_limit_cut m g (found v w) n e = go (leb v m) e
 pub field_cut : (f : Field) (bs : List ℕ) → field_in f bs ≡ fault Cut → length bs < 10
 unfolding field_in float_in
 field_cut number bs e = omega (arith, number_cut 9 bs e)
-field_cut flag bs e = omega (arith, number_cut 9 bs (number_limit_cut 1 Flag (number_in 9 bs) (λ x. zero_one (let z : ◌≡◌ {A = ℕ} 0 1 = cc in z)) e))
-field_cut count bs e = omega (arith, number_cut 9 bs (number_limit_cut 256 Count (number_in 9 bs) (λ x. zero_one (let z : ◌≡◌ {A = ℕ} 0 1 = cc in z)) e))
-field_cut float (a ∷ b ∷ c ∷ d ∷ bs) e = let z : ◌≡◌ {A = ℕ} 0 1 = cc in absurd (zero_one z)
+field_cut flag bs e = omega (arith, number_cut 9 bs (number_limit_cut 1 Flag (number_in 9 bs) (λ x. cc) e))
+field_cut count bs e = omega (arith, number_cut 9 bs (number_limit_cut 256 Count (number_in 9 bs) (λ x. cc) e))
+field_cut float (a ∷ b ∷ c ∷ d ∷ bs) e = cc
 field_cut float [] e = lit< tt
 field_cut float (a ∷ []) e = lit< tt
 field_cut float (a ∷ b ∷ []) e = lit< tt

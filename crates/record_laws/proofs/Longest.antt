@@ -20,7 +20,6 @@ use Rattle.records.proofs.Chain.{record_long}
 use Rattle.records.proofs.Floats.{floats_whole}
 use Rattle.records.proofs.Steps.{fields_count}
 use Rattle.record_laws.proofs.Numbers.{Bytes}
-use Rattle.records.proofs.Contradiction.{zero_one}
 use Rattle.record_laws.proofs.Rows.{row_bytes, moved, row_made, row_moved, row_long, row_cut}
 use Rattle.record_laws.proofs.Whole.{Fit, numbers_bytes, numbers_fit, most_numbers}
 use Rattle.record_laws.proofs.Fields.{take_below}
@@ -44,8 +43,7 @@ floats_short n q bs o e = go (ltb (length bs) (4 * n)) refl
     go false p =
         let l : 0 + 4 * n ≤ length bs = omega (arith, ltb-false (length bs) (4 * n) p) in
         let a = ap (λ (k : ℕ). fields_in (replicate n float) k bs) (sym (add-zero q)) ∙ row_moved (replicate n float) q 0 bs ∙ ap (moved q) (floats_whole bs n 0 l) in
-        let z : ◌≡◌ {A = ℕ} 0 1 = cc (a, e) in
-        absurd (zero_one z)
+        cc (a, e)
 
 -- what is cut short
 pub cut_shorter : (at : ℕ) (bs : List ℕ) (o : ℕ) → Bytes bs → record_in at bs ≡ refused Cut o → length bs < 4135
@@ -54,7 +52,7 @@ cut_shorter at [] o y e = lit< tt
 cut_shorter at (b ∷ bs) o y e = go (fields_in numbers at (b ∷ bs)) refl e
   where
     inner : (vs : List ℕ) (q : ℕ) (r : List ℕ) → fields_in numbers at (b ∷ bs) ≡ whole vs q r → (x : Fields) → fields_in (replicate (float_count (header_of vs)) float) q r ≡ x → with_floats (header_of vs) x ≡ refused Cut o → length (b ∷ bs) < 4135
-    inner vs q r a (whole ws p rest) c e = let z : ◌≡◌ {A = ℕ} 0 1 = cc in absurd (zero_one z)
+    inner vs q r a (whole ws p rest) c e = cc
     inner vs q r a (stopped f x) c e =
         let g : f ≡ Cut = cc in
         let s = floats_short (float_count (header_of vs)) q r x (c ∙ ap (λ (f : Fault). stopped f x) g) in
@@ -74,23 +72,23 @@ no_more at [] e = omega arith
 no_more at (b ∷ bs) e = absurd (go (fields_in numbers at (b ∷ bs)) e)
   where
     inner : (h : Header) (x : Fields) → with_floats h x ≡ none → ⊥
-    inner h (whole ws p rest) e = let z : ◌≡◌ {A = ℕ} 0 1 = cc in zero_one z
-    inner h (stopped f o) e = let z : ◌≡◌ {A = ℕ} 0 1 = cc in zero_one z
+    inner h (whole ws p rest) e = cc
+    inner h (stopped f o) e = cc
 
     go : (x : Fields) → with_numbers x ≡ none → ⊥
-    go (stopped f o) e = let z : ◌≡◌ {A = ℕ} 0 1 = cc in zero_one z
+    go (stopped f o) e = cc
     go (whole vs q r) e = inner (header_of vs) (fields_in (replicate (float_count (header_of vs)) float) q r) e
 
 fault_done : (f : Fault) (o : ℕ) → (f ≡ Cut → ⊥) → Done (refused f o)
-fault_done f o n = record { some = λ e. (let z : ◌≡◌ {A = ℕ} 0 1 = cc in zero_one z); not-cut = λ p e. n (cc) }
+fault_done f o n = record { some = λ e. cc; not-cut = λ p e. n cc }
 
 done_or : (r : Reading) → Done r ⊎ ((r ≡ none) ⊎ ((o : ℕ) × (r ≡ refused Cut o)))
-done_or (taken h xs ps qs next) = inl (record { some = λ e. (let z : ◌≡◌ {A = ℕ} 0 1 = cc in zero_one z); not-cut = λ o e. (let z : ◌≡◌ {A = ℕ} 0 1 = cc in zero_one z) })
+done_or (taken h xs ps qs next) = inl (record { some = λ e. cc; not-cut = λ o e. cc })
 done_or none = inr (inl refl)
 done_or (refused Cut o) = inr (inr (o, refl))
-done_or (refused Malformed o) = inl (fault_done Malformed o (λ e. (let z : ◌≡◌ {A = ℕ} 0 1 = cc in zero_one z)))
-done_or (refused Count o) = inl (fault_done Count o (λ e. (let z : ◌≡◌ {A = ℕ} 0 1 = cc in zero_one z)))
-done_or (refused Flag o) = inl (fault_done Flag o (λ e. (let z : ◌≡◌ {A = ℕ} 0 1 = cc in zero_one z)))
+done_or (refused Malformed o) = inl (fault_done Malformed o (λ e. cc))
+done_or (refused Count o) = inl (fault_done Count o (λ e. cc))
+done_or (refused Flag o) = inl (fault_done Flag o (λ e. cc))
 
 pub enough : (at : ℕ) (bs : List ℕ) → Bytes bs → record_in at (take 4135 bs) ≡ record_in at bs
 enough at bs y = elim (done_or (record_in at (take 4135 bs))) [

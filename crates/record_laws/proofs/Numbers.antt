@@ -13,7 +13,6 @@ use lib.ListN.{length, get_or, take}
 use Rattle.records.specs.Numbers.{Found, found, fault, after, number_in, bytes_in}
 use Rattle.records.specs.declared.Fault.{Fault}
 use Rattle.records.specs.declared.Fault.TheVariants.{Cut, Malformed}
-use Rattle.records.proofs.Contradiction.{zero_one}
 use Rattle.records.proofs.Groups.{room, room_suc, down_group, room_zero, bytes_last, bytes_more}
 
 in_last : (k b : ℕ) (bs : List ℕ) → b < 128 → number_in (suc k) (b ∷ bs) ≡ found b 1
@@ -130,15 +129,15 @@ number_cut k [] e = zero-le
 number_cut zero (b ∷ bs) e = go (ltb b 2) e
   where
     go : (t : Bool) → cond t (found b 1) (fault Malformed) ≡ fault Cut → suc (length bs) ≤ 0
-    go true e = let z : ◌≡◌ {A = ℕ} 0 1 = cc in absurd (zero_one z)
-    go false e = let z : ◌≡◌ {A = ℕ} 0 1 = cc in absurd (zero_one z)
+    go true e = cc
+    go false e = cc
 number_cut (suc k) (b ∷ bs) e = go (ltb b 128) e (number_cut k bs)
   where
     in_after : (f : Found) → after b f ≡ fault Cut → f ≡ fault Cut
     in_after (fault g) e = e
-    in_after (found zero n) e = let z : ◌≡◌ {A = ℕ} 0 1 = cc in absurd (zero_one z)
-    in_after (found (suc v) n) e = let z : ◌≡◌ {A = ℕ} 0 1 = cc in absurd (zero_one z)
+    in_after (found zero n) e = cc
+    in_after (found (suc v) n) e = cc
 
     go : (t : Bool) → cond t (found b 1) (after b (number_in k bs)) ≡ fault Cut → (number_in k bs ≡ fault Cut → length bs ≤ k) → suc (length bs) ≤ suc k
-    go true e ih = let z : ◌≡◌ {A = ℕ} 0 1 = cc in absurd (zero_one z)
+    go true e ih = cc
     go false e ih = suc-le-suc (ih (in_after (number_in k bs) e))

@@ -12,7 +12,6 @@ use Rattle.records.specs.Fields.{Field, field_in, Fields, whole, stopped, onto, 
 use Rattle.records.specs.declared.Fault.TheVariants.{Cut}
 use Rattle.records.proofs.Steps.{field_inside, step}
 use Rattle.record_laws.proofs.Numbers.{Bytes}
-use Rattle.records.proofs.Contradiction.{zero_one}
 use Rattle.record_laws.proofs.Fields.{field_bytes, Fits, most, drop_below, field_back, field_made, field_stable, field_long, field_cut}
 
 unfoldable pub row_bytes : List Field → List ℕ → List ℕ
@@ -55,7 +54,7 @@ pub record RowMade (fs : List Field) (at : ℕ) (bs vs : List ℕ) (q : ℕ) (re
 pub row_made : (fs : List Field) (at : ℕ) (bs vs : List ℕ) (q : ℕ) (rest : List ℕ) → Bytes bs → fields_in fs at bs ≡ whole vs q rest → RowMade fs at bs vs q rest
 unfolding fields_in row_bytes FitRow
 row_made [] at bs [] q rest y e = let a : at ≡ q = cc in record { fits = tt; ends = omega arith; same = cc }
-row_made [] at bs (v ∷ vs) q rest y e = let z : ◌≡◌ {A = List ℕ} [] (v ∷ vs) = cc in let o : ◌≡◌ {A = ℕ} 0 1 = cc in absurd (zero_one o)
+row_made [] at bs (v ∷ vs) q rest y e = let z : ◌≡◌ {A = List ℕ} [] (v ∷ vs) = cc in cc
 row_made (f ∷ fs) at bs vs q rest y e =
     let w = step f fs at bs vs q rest e in
     let m = field_made f bs w.v w.n y w.first in
@@ -124,11 +123,11 @@ row_long (f ∷ fs) (v ∷ vs) h = omega (arith, length-append (field_bytes f v)
 -- a row that is cut short is not much longer
 pub row_cut : (fs : List Field) (at : ℕ) (bs : List ℕ) (o : ℕ) → Bytes bs → fields_in fs at bs ≡ stopped Cut o → length bs < most_row fs + 10
 unfolding fields_in most_row
-row_cut [] at bs o y e = let z : ◌≡◌ {A = ℕ} 0 1 = cc in absurd (zero_one z)
+row_cut [] at bs o y e = cc
 row_cut (f ∷ fs) at bs o y e = go (field_in f bs) refl e (λ n. row_cut fs (at + n) (drop n bs) o (drop_below 256 n bs y))
   where
     inner : (v n : ℕ) → field_in f bs ≡ found v n → (r : Fields) → fields_in fs (at + n) (drop n bs) ≡ r → onto v r ≡ stopped Cut o → ((n : ℕ) → fields_in fs (at + n) (drop n bs) ≡ stopped Cut o → length (drop n bs) < most_row fs + 10) → length bs < most f + most_row fs + 10
-    inner v n a (whole vs q rest) b e ih = let z : ◌≡◌ {A = ℕ} 0 1 = cc in absurd (zero_one z)
+    inner v n a (whole vs q rest) b e ih = cc
     inner v n a (stopped g x) b e ih =
         let m = field_made f bs v n y a in
         omega (arith, ih n (b ∙ e), length-drop n bs, m.wide, field_long f v m.fits)

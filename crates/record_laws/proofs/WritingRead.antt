@@ -12,7 +12,6 @@ use Rattle.records.specs.Fields.{float, Fields, whole, stopped, fields_in}
 use Rattle.records.specs.Records.{numbers, header_of, with_quality, float_count, taken, with_floats, with_numbers, record_in, each, float_bytes, numbers_of, record_bytes}
 use Rattle.records.specs.declared.Header.{Header}
 use Rattle.record_laws.proofs.Numbers.{Bytes}
-use Rattle.records.proofs.Contradiction.{zero_one}
 use Rattle.record_laws.proofs.Rows.{row_bytes, FitRow, RowMade, row_made}
 use Rattle.record_laws.proofs.Whole.{Fit, numbers_bytes, numbers_made, floats_bytes, floats_made, floats_of, record_bytes_lem}
 use Rattle.record_laws.proofs.Fields.{drop_below, take_below}
@@ -37,11 +36,11 @@ pub record Parts (at : ℕ) (bs : List ℕ) (h : Header) (xs ps qs : List ℕ) (
 
 pub parts_of : (at : ℕ) (bs : List ℕ) (h : Header) (xs ps qs : List ℕ) (next : ℕ) → record_in at bs ≡ taken h xs ps qs next → Parts at bs h xs ps qs next
 unfolding record_in
-parts_of at [] h xs ps qs next e = let z : ◌≡◌ {A = ℕ} 0 1 = cc in absurd (zero_one z)
+parts_of at [] h xs ps qs next e = cc
 parts_of at (b ∷ bs) h xs ps qs next e = go (fields_in numbers at (b ∷ bs)) refl e
   where
     inner : (vs : List ℕ) (q : ℕ) (r : List ℕ) → fields_in numbers at (b ∷ bs) ≡ whole vs q r → (x : Fields) → fields_in (replicate (float_count (header_of vs)) float) q r ≡ x → with_floats (header_of vs) x ≡ taken h xs ps qs next → Parts at (b ∷ bs) h xs ps qs next
-    inner vs q r a (stopped f o) c e = let z : ◌≡◌ {A = ℕ} 0 1 = cc in absurd (zero_one z)
+    inner vs q r a (stopped f o) c e = cc
     inner vs q r a (whole ws p rest) c e = record {
       vs = vs;
       q = q;
@@ -57,7 +56,7 @@ parts_of at (b ∷ bs) h xs ps qs next e = go (fields_in numbers at (b ∷ bs)) 
     }
 
     go : (x : Fields) → fields_in numbers at (b ∷ bs) ≡ x → with_numbers x ≡ taken h xs ps qs next → Parts at (b ∷ bs) h xs ps qs next
-    go (stopped f o) a e = let z : ◌≡◌ {A = ℕ} 0 1 = cc in absurd (zero_one z)
+    go (stopped f o) a e = cc
     go (whole vs q r) a e = inner vs q r a (fields_in (replicate (float_count (header_of vs)) float) q r) refl e
 
 -- a list of floats is its quality and its three lists

@@ -1,3 +1,2 @@
 -- Laws of reading a recording.
-pub mod Moved
 pub mod Hearing

@@ -26,9 +26,6 @@ module _ {d₀ : List ℕ} {at : ℕ} {bs d : List ℕ} {p : ℕ} (w : Put d₀ 
   pub put-room : (n : ℕ) → at + (length bs + n) ≤ length d₀ → p + n ≤ length d
   put-room n h = omega (arith, w.place, ap length w.same, length-sets d₀ at bs)
 
-  pub put-wide : length d ≡ length d₀
-  put-wide = ap length w.same ∙ length-sets d₀ at bs
-
 pub record_long : (h : Header) (xs ps qs : List ℕ) → length (record_bytes h xs ps qs) ≡ length (each number_bytes (numbers_of h)) + 4 + 4 * length xs + 4 * length ps + 4 * length qs
 unfolding record_bytes
 record_long h xs ps qs = simp (length-append, floats_long)

@@ -13,32 +13,23 @@ use Rattle.records.specs.Parts.{float_at, floats_at}
 use Rattle.records.specs.declared.Fault.TheVariants.{Cut}
 
 -- ---- a turn of the loop
-pub record Left (s : List ℕ) (at n : ℕ) (d₀ d : List ℕ) (p i : ℕ) : Type 0 where
-  pub most : i ≤ n
-  pub place : p ≡ at + 4 * i
+pub record Left (s : List ℕ) (at n : ℕ) (d₀ d : List ℕ) (i : ℕ) : Type 0 where
   pub wide : length d ≡ length d₀
-  pub same : sets d i (floats_at s p (n - i)) ≡ sets d₀ 0 (floats_at s at n)
+  pub same : sets d i (floats_at s (at + 4 * i) (n - i)) ≡ sets d₀ 0 (floats_at s at n)
 
-pub left_all : (s : List ℕ) (at n : ℕ) (d : List ℕ) → Left s at n d d at 0
-left_all s at n d = record { most = omega arith; place = omega arith; wide = refl; same = ap (λ (k : ℕ). sets d 0 (floats_at s at k)) (none n) }
-  where
-    none : (n : ℕ) → n - 0 ≡ n
-    none n = omega arith
-
-pub left_more : (s : List ℕ) (at n : ℕ) (d₀ d : List ℕ) (p i v : ℕ) → v ≡ float_at s p → i < n → Left s at n d₀ d p i → Left s at n d₀ (set d i v) (p + 4) (i + 1)
+pub left_more : (s : List ℕ) (at n : ℕ) (d₀ d : List ℕ) (i v : ℕ) → v ≡ float_at s (at + 4 * i) → i < n → Left s at n d₀ d i → Left s at n d₀ (set d i v) (i + 1)
 unfolding floats_at
-left_more s at n d₀ d p i v g h w =
+left_more s at n d₀ d i v g h w =
     let e : n - i ≡ suc (n - (i + 1)) = omega arith in
+    let k : at + 4 * (i + 1) ≡ at + 4 * i + 4 = omega arith in
     record {
-      most = omega arith;
-      place = omega (arith, w.place);
       wide = length-set d i v ∙ w.wide;
-      same = rw (g, add-one i) (rw (add-one i) at (rw e at w.same));
+      same = rw (g, k, add-one i) (rw (add-one i) at (rw e at w.same));
     }
 
-pub left_none : (s : List ℕ) (at n : ℕ) (d₀ d : List ℕ) (p i : ℕ) → n ≤ i → Left s at n d₀ d p i → d ≡ sets d₀ 0 (floats_at s at n)
+pub left_none : (s : List ℕ) (at n : ℕ) (d₀ d : List ℕ) (i : ℕ) → n ≤ i → Left s at n d₀ d i → d ≡ sets d₀ 0 (floats_at s at n)
 unfolding floats_at
-left_none s at n d₀ d p i h w = let e : n - i ≡ 0 = omega arith in rw e at w.same
+left_none s at n d₀ d i h w = let e : n - i ≡ 0 = omega arith in rw e at w.same
 
 -- ---- field by field
 pub four : (s : List ℕ) (a : ℕ) → a + 4 ≤ length s → drop a s ≡ get_or s a 0 ∷ get_or s (a + 1) 0 ∷ get_or s (a + 2) 0 ∷ get_or s (a + 3) 0 ∷ drop (a + 4) s

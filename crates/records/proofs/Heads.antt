@@ -9,14 +9,27 @@ use borrow.Author.Tests.{le-leb, lt-leb}
 use lib.ListN.{length, get_or, set, take, drop, length-set}
 use lib.Seq.{drop-cons, drop-drop, take-suc-set, take_all}
 use Rattle.records.specs.Numbers.{Found, found, fault, number_in}
-use Rattle.records.specs.Fields.{Field, number, flag, count, at_most, field_in, Fields, whole, stopped, onto, onward, fields_in}
+use Rattle.records.specs.Fields.{Field, number, at_most, field_in, Fields, whole, stopped, onto, onward, fields_in}
 use Rattle.records.specs.Records.{numbers, header_of}
-use Rattle.records.specs.Parts.{field_read, head_read}
+use Rattle.records.specs.Parts.{kind_of, field_read, head_read}
+use Rattle.records.proofs.ReadingNumbers.{read_as, no}
+use Rattle.records.specs.declared.Field.{Field as Kind}
+use Rattle.records.specs.declared.Field.TheVariants.{Number as A_number, Flag as A_flag, Count as A_count}
+use Rattle.records.specs.declared.Header.{Header}
+use Rattle.records.specs.declared.Number.{Number}
+use Rattle.records.specs.declared.ReadError.{ReadError}
+use Rattle.records.specs.declared.ReadError.TheVariants.{Refused}
+use Rattle.records.specs.declared.Record.{Record}
+use Rattle.std.specs.Prelude.{Result, Ok, Err}
 use Rattle.records.specs.declared.Fault.{Fault}
 use Rattle.records.specs.declared.Fault.TheVariants.{Flag, Count}
-use Rattle.records.specs.declared.FieldRead.TheVariants.{Value, No}
-use Rattle.records.specs.declared.HeadRead.TheVariants.{Head, NoHead}
-use Rattle.records.proofs.Contradiction.{zero_one}
+
+-- what the reader of a head answers
+abbrev pub head_as : Header → ℕ → Result Record ReadError
+head_as h q = Ok (record { header = h; next = q })
+
+abbrev pub no_head : Fault → ℕ → Result Record ReadError
+no_head f o = Err (Refused f o)
 
 -- ---- what a field's answer says was found
 pub record Got (p : ℕ) (f : Found) (v q : ℕ) : Type 0 where
@@ -24,77 +37,64 @@ pub record Got (p : ℕ) (f : Found) (v q : ℕ) : Type 0 where
   pub was : f ≡ found v n
   pub next : q ≡ p + n
 
-pub got : (p : ℕ) (f : Found) (v q : ℕ) → Value v q ≡ field_read p f → Got p f v q
-got p (found x n) v q e = record { n = n; was = cc; next = cc }
-got p (fault g) v q e = let z : ◌≡◌ {A = ℕ} 0 1 = cc in absurd (zero_one z)
+pub got : (p : ℕ) (f : Found) (v q : ℕ) → read_as v q ≡ field_read p f → Got p f v q
+got p (found x n) v q e =
+    let w : ◌≡◌ {A = Number} (record { value = v; next = q }) (record { value = x; next = p + n }) = cc in
+    record { n = n; was = ap (λ (r : Number). found r.value n) (sym w); next = ap (λ (r : Number). r.next) w }
+got p (fault g) v q e = cc
 
-pub got_no : (p : ℕ) (f : Found) (g : Fault) → No g ≡ field_read p f → f ≡ fault g
-got_no p (found x n) g e = let z : ◌≡◌ {A = ℕ} 0 1 = cc in absurd (zero_one z)
+pub got_no : (p : ℕ) (f : Found) (g : Fault) → no g ≡ field_read p f → f ≡ fault g
+got_no p (found x n) g e = cc
 got_no p (fault h) g e = cc
 
--- ---- the i-th of the six
-pub is_number : (i : ℕ) → i < 3 → get_or numbers i number ≡ number
-is_number zero h = refl
-is_number (suc zero) h = refl
-is_number (suc (suc zero)) h = refl
-is_number (suc (suc (suc i))) h = let z : ⊥ = omega arith in absurd z
-
-pub is_flag : (i : ℕ) → i ≡ 3 → get_or numbers i number ≡ flag
-is_flag i e = ap (λ (k : ℕ). get_or numbers k number) e
-
-pub is_count : (i : ℕ) → 3 ≤ i → (i ≡ 3 → ⊥) → i < 6 → get_or numbers i number ≡ count
-is_count zero l n h = let z : ⊥ = omega arith in absurd z
-is_count (suc zero) l n h = let z : ⊥ = omega arith in absurd z
-is_count (suc (suc zero)) l n h = let z : ⊥ = omega arith in absurd z
-is_count (suc (suc (suc zero))) l n h = absurd (n refl)
-is_count (suc (suc (suc (suc zero)))) l n h = refl
-is_count (suc (suc (suc (suc (suc zero))))) l n h = refl
-is_count (suc (suc (suc (suc (suc (suc i)))))) l n h = let z : ⊥ = omega arith in absurd z
-
--- a field at a place, where its number was read as r
+-- ---- a field at a place, by its kind
 module _ (at : ℕ) (bs : List ℕ) where
-  pub no_number : (i : ℕ) (g : Fault) → i < 6 → No g ≡ field_read at (number_in 9 bs) → No g ≡ field_read at (field_in (get_or numbers i number) bs)
+  pub no_number : (f : Kind) {g : Fault} → no g ≡ field_read at (number_in 9 bs) → no g ≡ field_read at (field_in (kind_of f) bs)
   unfolding field_in
-  no_number i g l e = go i l (got_no at (number_in 9 bs) g e)
-    where
-      go : (i : ℕ) → i < 6 → number_in 9 bs ≡ fault g → No g ≡ field_read at (field_in (get_or numbers i number) bs)
-      go zero l e = rw e
-      go (suc zero) l e = rw e
-      go (suc (suc zero)) l e = rw e
-      go (suc (suc (suc zero))) l e = rw e
-      go (suc (suc (suc (suc zero)))) l e = rw e
-      go (suc (suc (suc (suc (suc zero))))) l e = rw e
-      go (suc (suc (suc (suc (suc (suc i)))))) l e = let z : ⊥ = omega arith in absurd z
+  no_number A_number e = e
+  no_number A_flag {g} e = rw (got_no at (number_in 9 bs) g e)
+  no_number A_count {g} e = rw (got_no at (number_in 9 bs) g e)
 
-  module _ (v q : ℕ) (e : Value v q ≡ field_read at (number_in 9 bs)) where
-    limited : (most : ℕ) (g : Fault) → v ≤ most → field_read at (at_most most g (number_in 9 bs)) ≡ Value v q
-    limited most g l = let w = got at (number_in 9 bs) v q e in rw (w.was, le-leb v most l) (ap (Value v) (sym w.next))
+  module _ {v q : ℕ} (e : read_as v q ≡ field_read at (number_in 9 bs)) where
+    within : (most : ℕ) (g : Fault) → v ≤ most → read_as v q ≡ field_read at (at_most most g (number_in 9 bs))
+    within most g l = let w = got at (number_in 9 bs) v q e in sym (rw (w.was, le-leb v most l) (ap (read_as v) (sym w.next)))
 
-    over : (most : ℕ) (g : Fault) → most < v → field_read at (at_most most g (number_in 9 bs)) ≡ No g
-    over most g l = let w = got at (number_in 9 bs) v q e in rw (w.was, lt-leb v most l)
+    over : (most : ℕ) (g : Fault) → most < v → no g ≡ field_read at (at_most most g (number_in 9 bs))
+    over most g l = let w = got at (number_in 9 bs) v q e in sym (rw (w.was, lt-leb v most l))
 
-    module _ (i : ℕ) where
-      pub free : i < 3 → Value v q ≡ field_read at (field_in (get_or numbers i number) bs)
-      unfolding field_in
-      free h = rw (is_number i h) e
+    pub any-number : {f : Kind} → f ≡ A_number → read_as v q ≡ field_read at (field_in (kind_of f) bs)
+    unfolding field_in
+    any-number k = rw k e
 
-      pub flag-over : i ≡ 3 → 1 < v → No Flag ≡ field_read at (field_in (get_or numbers i number) bs)
-      unfolding field_in
-      flag-over h l = rw (is_flag i h) (sym (over 1 Flag l))
+    pub flag-within : {f : Kind} → f ≡ A_flag → v ≤ 1 → read_as v q ≡ field_read at (field_in (kind_of f) bs)
+    unfolding field_in
+    flag-within k l = rw k (within 1 Flag l)
 
-      pub flag-fits : i ≡ 3 → v ≤ 1 → Value v q ≡ field_read at (field_in (get_or numbers i number) bs)
-      unfolding field_in
-      flag-fits h l = rw (is_flag i h) (sym (limited 1 Flag l))
+    pub flag-over : {f : Kind} → f ≡ A_flag → 1 < v → no Flag ≡ field_read at (field_in (kind_of f) bs)
+    unfolding field_in
+    flag-over k l = rw k (over 1 Flag l)
 
-      pub count-over : 3 ≤ i → (i ≡ 3 → ⊥) → i < 6 → 256 < v → No Count ≡ field_read at (field_in (get_or numbers i number) bs)
-      unfolding field_in
-      count-over h m k l = rw (is_count i h m k) (sym (over 256 Count l))
+    pub count-within : {f : Kind} → f ≡ A_count → v ≤ 256 → read_as v q ≡ field_read at (field_in (kind_of f) bs)
+    unfolding field_in
+    count-within k l = rw k (within 256 Count l)
 
-      pub count_fits : 3 ≤ i → (i ≡ 3 → ⊥) → i < 6 → v ≤ 256 → Value v q ≡ field_read at (field_in (get_or numbers i number) bs)
-      unfolding field_in
-      count_fits h m k l = rw (is_count i h m k) (sym (limited 256 Count l))
+    pub count-over : {f : Kind} → f ≡ A_count → 256 < v → no Count ≡ field_read at (field_in (kind_of f) bs)
+    unfolding field_in
+    count-over k l = rw k (over 256 Count l)
 
 -- ---- a turn of the loop
+abbrev pub kinds : List Kind
+kinds = A_number ∷ A_number ∷ A_number ∷ A_flag ∷ A_count ∷ A_count ∷ []
+
+kind_at : (i : ℕ) (d : Kind) → i < 6 → kind_of (get_or kinds i d) ≡ get_or numbers i number
+kind_at zero d h = refl
+kind_at (suc zero) d h = refl
+kind_at (suc (suc zero)) d h = refl
+kind_at (suc (suc (suc zero))) d h = refl
+kind_at (suc (suc (suc (suc zero)))) d h = refl
+kind_at (suc (suc (suc (suc (suc zero))))) d h = refl
+kind_at (suc (suc (suc (suc (suc (suc i)))))) d h = let z : ⊥ = omega arith in absurd z
+
 unfoldable pub onto_all : List ℕ → Fields → Fields
 onto_all [] r = r
 onto_all (v ∷ vs) r = onto v (onto_all vs r)
@@ -129,8 +129,9 @@ module _ {s : List ℕ} {at : ℕ} {v : List ℕ} {p i : ℕ} (k : Known s at v 
   unfolding fields_in
   next_field h = ap (λ (fs : List Field). fields_in fs p (drop p s)) (drop-cons numbers i number h)
 
-  pub known_more : (x q : ℕ) → i < 6 → Value x q ≡ field_read p (field_in (get_or numbers i number) (drop p s)) → Known s at (set v i x) q (i + 1)
-  known_more x q h e =
+  pub known_more : (x q : ℕ) (d : Kind) → i < 6 → read_as x q ≡ field_read p (field_in (kind_of (get_or kinds i d)) (drop p s)) → Known s at (set v i x) q (i + 1)
+  known_more x q d h o =
+      let e : read_as x q ≡ field_read p (field_in (get_or numbers i number) (drop p s)) = o ∙ ap (λ (f : Field). field_read p (field_in f (drop p s))) (kind_at i d h) in
       let w = got p (field_in (get_or numbers i number) (drop p s)) x q e in
       let n = w.n in
       let a : fields_in (drop i numbers) p (drop p s) ≡ onto x (fields_in (drop (suc i) numbers) (p + n) (drop n (drop p s))) = next_field h ∙ ap (λ (f : Found). onward f p (λ m. fields_in (drop (suc i) numbers) (p + m) (drop m (drop p s)))) w.was in
@@ -145,12 +146,13 @@ module _ {s : List ℕ} {at : ℕ} {v : List ℕ} {p i : ℕ} (k : Known s at v 
             ∙ sym (rw (add-one i, c) (all_more (take i v) x (fields_in (drop (suc i) numbers) q (drop q s))));
       }
 
-  pub known-stopped : (g : Fault) → i < 6 → No g ≡ field_read p (field_in (get_or numbers i number) (drop p s)) → NoHead g p ≡ head_read (fields_in numbers at (drop at s))
-  known-stopped g h e =
+  pub known-stopped : (g : Fault) (d : Kind) → i < 6 → no g ≡ field_read p (field_in (kind_of (get_or kinds i d)) (drop p s)) → no_head g p ≡ head_read (fields_in numbers at (drop at s))
+  known-stopped g d h o =
+      let e : no g ≡ field_read p (field_in (get_or numbers i number) (drop p s)) = o ∙ ap (λ (f : Field). field_read p (field_in f (drop p s))) (kind_at i d h) in
       let a : fields_in (drop i numbers) p (drop p s) ≡ stopped g p = next_field h ∙ ap (λ (f : Found). onward f p (λ m. fields_in (drop (suc i) numbers) (p + m) (drop m (drop p s)))) (got_no p (field_in (get_or numbers i number) (drop p s)) g e) in
       sym (ap head_read (k.same ∙ ap (onto_all (take i v)) a ∙ all_stopped (take i v) g p))
 
-  pub known-all : 6 ≤ i → Head (header_of v) p ≡ head_read (fields_in numbers at (drop at s))
+  pub known-all : 6 ≤ i → head_as (header_of v) p ≡ head_read (fields_in numbers at (drop at s))
   unfolding fields_in
   known-all h =
       let e : i ≡ 6 = omega (arith, k.turns) in

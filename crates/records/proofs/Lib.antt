@@ -1,4 +1,3 @@
-pub mod Contradiction
 pub mod Groups
 pub mod ReadingNumbers
 pub mod WritingNumbers

@@ -12,11 +12,20 @@ use lib.Dec.{ltb}
 use lib.Pow.{pow-add, pow_mono}
 use lib.ListN.{length, get_or, drop, drop_of_length-le}
 use lib.Seq.{drop-cons}
+use Rattle.std.specs.Prelude.{Result, Ok, Err}
 use mathlib.Core.Logic.{◌⊎◌, inl, inr}
 use Rattle.records.specs.Numbers.{Found, found, fault, after, number_in}
 use Rattle.records.specs.Parts.{field_read}
+use Rattle.records.specs.declared.Fault.{Fault}
 use Rattle.records.specs.declared.Fault.TheVariants.{Cut, Malformed}
-use Rattle.records.specs.declared.FieldRead.TheVariants.{Value, No}
+use Rattle.records.specs.declared.Number.{Number}
+
+-- what a number's reader answers
+abbrev pub read_as : ℕ → ℕ → Result Number Fault
+read_as v q = Ok (record { value = v; next = q })
+
+abbrev pub no : Fault → Result Number Fault
+no f = Err f
 
 -- what is found, after i bytes that have shown a so far, with w the weight of the next
 unfoldable pub wrapped : ℕ → ℕ → ℕ → Found → Found
@@ -93,14 +102,14 @@ pub record Known (s : List ℕ) (at value weight i p : ℕ) : Type 0 where
   pub same : number_in 9 (drop at s) ≡ wrapped i value weight (number_in (9 - i) (drop p s))
 
 module _ {s : List ℕ} {at value weight i p : ℕ} (k : Known s at value weight i p) where
-  pub cut : length s ≤ p → No Cut ≡ field_read at (number_in 9 (drop at s))
+  pub cut : length s ≤ p → no Cut ≡ field_read at (number_in 9 (drop at s))
   unfolding wrapped
   cut h = ap (field_read at) (sym (k.same ∙ ap (wrapped i value weight) (at-end s p (9 - i) h)))
 
   last : i < 9 → p < length s → get_or s p 0 < 128 → number_in 9 (drop at s) ≡ wrapped i value weight (found (get_or s p 0) 1)
   last h l b = k.same ∙ ap (wrapped i value weight) (at_last s p i h l b)
 
-  pub empty : i < 9 → p < length s → get_or s p 0 ≡ 0 → 0 < i → No Malformed ≡ field_read at (number_in 9 (drop at s))
+  pub empty : i < 9 → p < length s → get_or s p 0 ≡ 0 → 0 < i → no Malformed ≡ field_read at (number_in 9 (drop at s))
   unfolding wrapped
   empty h l b g = ap (field_read at) (sym (last h l (omega arith) ∙ ap (λ (x : ℕ). wrapped i value weight (found x 1)) b ∙ none i g))
     where
@@ -108,7 +117,7 @@ module _ {s : List ℕ} {at value weight i p : ℕ} (k : Known s at value weight
       none zero g = absurd (not-suc-le-zero g)
       none (suc i) g = refl
 
-  pub whole : i < 9 → p < length s → get_or s p 0 < 128 → ((i ≡ 0) ⊎ (0 < get_or s p 0)) → Value (value + weight * get_or s p 0) (p + 1) ≡ field_read at (number_in 9 (drop at s))
+  pub whole : i < 9 → p < length s → get_or s p 0 < 128 → ((i ≡ 0) ⊎ (0 < get_or s p 0)) → read_as (value + weight * get_or s p 0) (p + 1) ≡ field_read at (number_in 9 (drop at s))
   unfolding wrapped
   whole h l b o = cc (number-next, ap (field_read at) (last h l b ∙ worth-any i (get_or s p 0) o))
     where
@@ -129,9 +138,6 @@ module _ {s : List ℕ} {at value weight i p : ℕ} (k : Known s at value weight
   pub is-nine : 9 ≤ i → i ≡ 9
   is-nine h = omega (arith, k.turns)
 
-  pub all-nine : 9 ≤ i → value + weight < 18446744073709551616
-  all-nine h = let e : weight ≡ 9223372036854775808 = k.power-is ∙ ap (λ (x : ℕ). 2 ^ (7 * x)) (is-nine h) in omega (arith, k.small)
-
   pub onward : i < 9 → p < length s → 128 ≤ get_or s p 0 → get_or s p 0 < 256 → Known s at (value + weight * (get_or s p 0 - 128)) (weight * 128) (i + 1) (p + 1)
   onward h l b b' = record {
     turns = omega arith;
@@ -144,14 +150,14 @@ module _ {s : List ℕ} {at value weight i p : ℕ} (k : Known s at value weight
   tenth : i ≡ 9 → p < length s → number_in 9 (drop at s) ≡ wrapped 9 value weight (cond (ltb (get_or s p 0) 2) (found (get_or s p 0) 1) (fault Malformed))
   tenth e l = rw e at k.same ∙ ap (wrapped 9 value weight) (at-tenth s p l)
 
-  pub tenth-one : i ≡ 9 → p < length s → get_or s p 0 ≡ 1 → Value (value + weight) (p + 1) ≡ field_read at (number_in 9 (drop at s))
+  pub tenth-one : i ≡ 9 → p < length s → get_or s p 0 ≡ 1 → read_as (value + weight) (p + 1) ≡ field_read at (number_in 9 (drop at s))
   unfolding wrapped
   tenth-one e l b = let t : number_in 9 (drop at s) ≡ found (value + weight * 1) 10 = tenth e l ∙ rw b in cc (mul-one weight, next, ap (field_read at) t)
     where
       next : p + 1 ≡ at + 10
       next = omega (arith, k.place)
 
-  pub tenth-bad : i ≡ 9 → p < length s → (get_or s p 0 ≡ 1 → ⊥) → No Malformed ≡ field_read at (number_in 9 (drop at s))
+  pub tenth-bad : i ≡ 9 → p < length s → (get_or s p 0 ≡ 1 → ⊥) → no Malformed ≡ field_read at (number_in 9 (drop at s))
   unfolding wrapped
   tenth-bad e l b = ap (field_read at) (sym (tenth e l ∙ other (get_or s p 0) b))
     where

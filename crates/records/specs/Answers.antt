@@ -1,14 +1,15 @@
 -- The answers of the reader and the writer in the numbers of document 01, and what each leaves in the lent lists.
-use Rattle.std.specs.Prelude.{ℕ, ◌+◌, ◌*◌, List, Bool, true, false, ◌&&◌, leb, eqb, length}
+use Rattle.std.specs.Prelude.{ℕ, ◌+◌, ◌*◌, List, Bool, true, false, ◌&&◌, leb, eqb, length, Option, Some, None, Result, Ok, Err}
 use Rattle.std.proofs.lemmas.List.Edits.{sets}
 use Rattle.records.specs.Records.{Reading, taken, none, refused, record_at, record_bytes}
 use Rattle.records.specs.declared.Fault.{Fault}
 use Rattle.records.specs.declared.Fault.TheVariants.{Cut, Malformed, Flag, Count}
 use Rattle.records.specs.declared.Header.{Header}
-use Rattle.records.specs.declared.ReadRecord.{ReadRecord}
-use Rattle.records.specs.declared.ReadRecord.TheVariants.{Record, Nothing, Stores, Refused}
-use Rattle.records.specs.declared.Wrote.{Wrote}
-use Rattle.records.specs.declared.Wrote.TheVariants.{Written, Counts, Short}
+use Rattle.records.specs.declared.ReadError.{ReadError}
+use Rattle.records.specs.declared.ReadError.TheVariants.{Stores, Refused}
+use Rattle.records.specs.declared.Record.{Record}
+use Rattle.records.specs.declared.WriteError.{WriteError}
+use Rattle.records.specs.declared.WriteError.TheVariants.{Counts, Short}
 
 -- what an answer returns beside its number: nothing; an offset, or the place after what was written; or a record's header and the place after it
 pub data Value : Type 0 where
@@ -30,16 +31,16 @@ fault_number Malformed = 10
 fault_number Count = 5
 fault_number Flag = 11
 
-abbrev pub paper : ReadRecord → Answer
-paper (Record h next) = answer 0 (header h next)
-paper Nothing = answer 0 nothing
-paper Stores = answer 13 nothing
-paper (Refused f o) = answer (fault_number f) (place o)
+abbrev pub paper : Result (Option Record) ReadError → Answer
+paper (Ok (Some r)) = answer 0 (header r.header r.next)
+paper (Ok None) = answer 0 nothing
+paper (Err Stores) = answer 13 nothing
+paper (Err (Refused f o)) = answer (fault_number f) (place o)
 
-abbrev pub paper_wrote : Wrote → Answer
-paper_wrote (Written next) = answer 0 (place next)
-paper_wrote Counts = answer 5 nothing
-paper_wrote Short = answer 12 nothing
+abbrev pub paper_wrote : Result ℕ WriteError → Answer
+paper_wrote (Ok next) = answer 0 (place next)
+paper_wrote (Err Counts) = answer 5 nothing
+paper_wrote (Err Short) = answer 12 nothing
 
 -- a refusal unless the test holds
 abbrev pub unless : {A : Type 0} → Bool → A → A → A

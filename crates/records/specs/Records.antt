@@ -68,7 +68,7 @@ record_at input at = record_in at (drop at input)
 
 -- ---- writing
 -- the bytes of values in a row
-unfoldable pub each : (ℕ → List ℕ) → List ℕ → List ℕ
+unfoldable pub each : {A : Type 0} → (A → List ℕ) → List A → List ℕ
 each bytes [] = []
 each bytes (v ∷ vs) = bytes v ++ each bytes vs
 

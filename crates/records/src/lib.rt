@@ -1,16 +1,16 @@
 // The recording format, on bytes alone: a record's reader and writer.
 #![tactic(auto)]
 
-ghost use Rattle.std.specs.Prelude.{◌≡◌, ◌+◌, ◌*◌, ◌<◌, ◌≤◌, length, drop, get_or};
+ghost use Rattle.std.specs.Prelude.{◌≡◌, ℕ, List, ◌+◌, ◌*◌, ◌<◌, ◌≤◌, length, drop};
 ghost use Rattle.std.proofs.lemmas.List.Edits.{sets};
 ghost use Rattle.records.specs.Numbers.{number_in, number_bytes};
-ghost use Rattle.records.specs.Fields.{number, field_in, fields_in};
-ghost use Rattle.records.specs.Records.{numbers, header_of, floats_after, flag_number, numbers_of, each, float_bytes, record_bytes};
+ghost use Rattle.records.specs.Fields.{field_in, fields_in};
+ghost use Rattle.records.specs.Records.{numbers, header_of, floats_after, numbers_of, each, float_bytes, record_bytes};
 ghost use Rattle.records.specs.Answers.{paper, paper_wrote, fault_number, read, write, stored, stores_long, counted, read_of, write_of};
-ghost use Rattle.records.specs.Parts.{field_read, head_read, float_at, floats_at};
+ghost use Rattle.records.specs.Parts.{kind_of, field_read, head_read, float_at, floats_at, SameLists};
 
 // The fields of a record but its lists. A float is its bits.
-#[derive(Clone, Copy)]
+#[derive(Clone, Copy, PartialEq)]
 pub struct Header {
     pub session: u64,
     pub source: u64,
@@ -21,8 +21,15 @@ pub struct Header {
     pub quality: u32,
 }
 
+// A record that was read, and the place after it.
+#[derive(Clone, Copy, PartialEq)]
+pub struct Record {
+    pub header: Header,
+    pub next: usize,
+}
+
 // Why a field is refused.
-#[derive(Clone, Copy)]
+#[derive(Clone, Copy, Debug, PartialEq, Eq)]
 pub enum Fault {
     // The bytes end within the field: reply 9.
     Cut,
@@ -34,128 +41,125 @@ pub enum Fault {
     Flag,
 }
 
-#[derive(Clone, Copy)]
-pub enum ReadRecord {
-    // Reply 0 with a record, and the place after it.
-    Record { header: Header, next: usize },
-    // Reply 0 with no record: no bytes are left.
-    Nothing,
+// Why a record is not read.
+#[derive(Clone, Copy, Debug, PartialEq, Eq)]
+pub enum ReadError {
     // Reply 13: a lent list is short.
     Stores,
     // The first field at fault, with the offset of its first byte.
     Refused { fault: Fault, offset: usize },
 }
 
-#[derive(Clone, Copy)]
-pub enum Wrote {
-    // Reply 0: the place after the record.
-    Written(usize),
+// Why a record is not written.
+#[derive(Clone, Copy, Debug, PartialEq, Eq)]
+pub enum WriteError {
     // Reply 5: a count above 256, or a list of another length than its count.
     Counts,
     // Reply 12: the output is too short.
     Short,
 }
 
-// The number by which document 01 calls a fault.
-pub fn fault_number(fault: Fault) -> u64
-    ensures { result ≡ fault_number fault }
-{
-    match fault {
-        Fault::Cut => 9,
-        Fault::Malformed => 10,
-        Fault::Count => 5,
-        Fault::Flag => 11,
+// The lists that a record is read into.
+#[derive(Drop)]
+pub struct ReadLists<'a> {
+    pub amplitudes: &'a mut [u32],
+    pub phases: &'a mut [u32],
+    pub pairs: &'a mut [u32],
+}
+
+// The lists of a record to be written. `rvcsi_core::frame::Lists` has floats; these are bits, and this crate stands on no other.
+#[derive(Clone, Copy)]
+pub struct BitLists<'a> {
+    pub amplitudes: &'a [u32],
+    pub phases: &'a [u32],
+    pub pairs: &'a [u32],
+}
+
+impl Fault {
+    // The number by which the scope document calls a fault.
+    pub fn number(self) -> u64
+        ensures { result ≡ fault_number self }
+    {
+        match self {
+            Fault::Cut => 9,
+            Fault::Malformed => 10,
+            Fault::Count => 5,
+            Fault::Flag => 11,
+        }
     }
 }
 
-// ---- reading
-// What reading one number finds.
+// ---- reading. Each part takes the whole input and a place in it: offsets count from the input's first byte, and the clauses speak of them.
+
+// A number that was read, and the place after it.
 #[derive(Clone, Copy)]
-enum FieldRead {
-    Value { value: u64, next: usize },
-    No(Fault),
+struct Number {
+    value: u64,
+    next: usize,
 }
 
-// What reading the six numbers of a record finds.
-#[derive(Clone, Copy)]
-enum HeadRead {
-    // The quality is still 0.
-    Head { header: Header, next: usize },
-    NoHead { fault: Fault, offset: usize },
-}
-
-fn wide(b: u8) -> u64
-    ensures { result ≡ b }
-{
-    b as u64
-}
-
-fn read_number(input: &[u8], at: usize) -> FieldRead
+fn read_number(input: &[u8], at: usize) -> Result<Number, Fault>
     ensures { result ≡ field_read at (number_in 9 (drop at input.now)) }
 {
     let mut value: u64 = 0;
     let mut weight: u64 = 1;
-    let mut i: usize = 0;
     let mut p = at;
-    while i < 9 {
-        if input.len() <= p {
-            return FieldRead::No(Fault::Cut);
-        }
-        let b = wide(input[p]);
+    for i in 0..9usize {
+        let Some(&byte) = input.get(p) else {
+            return Err(Fault::Cut);
+        };
+        let b = u64::from(byte);
         if b < 128 {
-            if b == 0 {
-                if 0 < i {
-                    return FieldRead::No(Fault::Malformed);
-                }
+            if b == 0 && 0 < i {
+                return Err(Fault::Malformed);
             }
-            let last = value + weight * b;
-            let next = p + 1;
-            return FieldRead::Value { value: last, next };
+            return Ok(Number {
+                value: value + weight * b,
+                next: p + 1,
+            });
         }
-        value = value + weight * (b - 128);
-        weight = weight * 128;
+        value += weight * (b - 128);
+        weight *= 128;
         p += 1;
-        i += 1;
     }
-    if input.len() <= p {
-        return FieldRead::No(Fault::Cut);
+    let Some(&tenth) = input.get(p) else {
+        return Err(Fault::Cut);
+    };
+    if tenth != 1 {
+        return Err(Fault::Malformed);
     }
-    let b = input[p];
-    if b == 1 {
-        let tenth = value + weight;
-        let after = p + 1;
-        FieldRead::Value {
-            value: tenth,
-            next: after,
-        }
-    } else {
-        FieldRead::No(Fault::Malformed)
-    }
+    Ok(Number {
+        value: value + weight,
+        next: p + 1,
+    })
 }
 
-// Number i of the six: the fourth is the flag, the last two are counts.
-fn read_field(input: &[u8], at: usize, i: usize) -> FieldRead
-    requires { i < 6 }
-    ensures { result ≡ field_read at (field_in (get_or numbers i number) (drop at input.now)) }
+// What a number of the head stands for.
+#[derive(Clone, Copy)]
+enum Field {
+    Number,
+    Flag,
+    Count,
+}
+
+// Session, source, time, flag, subcarriers, pairs.
+const FIELDS: [Field; 6] = [
+    Field::Number,
+    Field::Number,
+    Field::Number,
+    Field::Flag,
+    Field::Count,
+    Field::Count,
+];
+
+fn read_field(input: &[u8], at: usize, field: Field) -> Result<Number, Fault>
+    ensures { result ≡ field_read at (field_in (kind_of field) (drop at input.now)) }
 {
-    let r = read_number(input, at);
-    match r {
-        FieldRead::No(fault) => FieldRead::No(fault),
-        FieldRead::Value { value, next } => {
-            if i < 3 {
-                return FieldRead::Value { value, next };
-            }
-            if i == 3 {
-                if 1 < value {
-                    return FieldRead::No(Fault::Flag);
-                }
-                return FieldRead::Value { value, next };
-            }
-            if 256 < value {
-                return FieldRead::No(Fault::Count);
-            }
-            FieldRead::Value { value, next }
-        }
+    let read = read_number(input, at)?;
+    match field {
+        Field::Flag if 1 < read.value => Err(Fault::Flag),
+        Field::Count if 256 < read.value => Err(Fault::Count),
+        _ => Ok(read),
     }
 }
 
@@ -174,76 +178,54 @@ fn header_of(v: [u64; 6]) -> Header
     }
 }
 
-fn read_head(input: &[u8], at: usize) -> HeadRead
+// The six numbers of a record, and the place after them.
+fn read_head(input: &[u8], at: usize) -> Result<Record, ReadError>
     ensures { result ≡ head_read (fields_in numbers at (drop at input.now)) }
 {
     let mut v = [0u64; 6];
     let mut p = at;
-    let mut i: usize = 0;
-    while i < 6 {
-        let r = read_field(input, p, i);
-        match r {
-            FieldRead::No(fault) => {
-                return HeadRead::NoHead { fault, offset: p };
-            }
-            FieldRead::Value { value, next } => {
+    for (i, field) in FIELDS.iter().enumerate() {
+        match read_field(input, p, *field) {
+            Ok(Number { value, next }) => {
                 v[i] = value;
                 p = next;
-                i += 1;
             }
+            Err(fault) => return Err(ReadError::Refused { fault, offset: p }),
         }
     }
-    HeadRead::Head {
+    Ok(Record {
         header: header_of(v),
         next: p,
-    }
-}
-
-fn byte32(b: u8) -> u32
-    ensures { (result ≡ b) × (result < 256) }
-{
-    b as u32
+    })
 }
 
 fn read_float(input: &[u8], at: usize) -> u32
     requires { at + 4 ≤ length input.now }
     ensures { result ≡ float_at input.now at }
 {
-    byte32(input[at])
-        + 256 * byte32(input[at + 1])
-        + 65536 * byte32(input[at + 2])
-        + 16777216 * byte32(input[at + 3])
+    u32::from_le_bytes([input[at], input[at + 1], input[at + 2], input[at + 3]])
 }
 
-// Reads n floats into the first n places.
+// Reads n floats into the first n places, by index: of what `iter_mut` beside a zip leaves in a list, no more than the length is known.
 fn read_floats(input: &[u8], at: usize, into: &mut [u32], n: usize)
     requires { (at + 4 * n ≤ length input.now) × (n ≤ length into.old) }
     ensures { into.new ≡ sets into.old 0 (floats_at input.now at n) }
 {
-    let mut p = at;
-    let mut i = 0;
-    while i < n {
-        into[i] = read_float(input, p);
-        p += 4;
-        i += 1;
+    for i in 0..n {
+        into[i] = read_float(input, at + 4 * i);
     }
 }
 
-fn read_lists(
-    input: &[u8],
-    at: usize,
-    n: usize,
-    m: usize,
-    amplitudes: &mut [u32],
-    phases: &mut [u32],
-    pairs: &mut [u32],
-)
-    requires { (at + 8 * n + 8 * m ≤ length input.now) × (n ≤ length amplitudes.old) × (n ≤ length phases.old) × (2 * m ≤ length pairs.old) }
-    ensures { (amplitudes.new ≡ sets amplitudes.old 0 (floats_at input.now at n)) × (phases.new ≡ sets phases.old 0 (floats_at input.now (at + 4 * n) n)) × (pairs.new ≡ sets pairs.old 0 (floats_at input.now (at + 8 * n) (2 * m))) }
+fn read_lists(input: &[u8], at: usize, n: usize, m: usize, lists: &mut ReadLists<'_>)
+    requires { (at + 8 * n + 8 * m ≤ length input.now) × (n ≤ length lists.old.amplitudes.now) × (n ≤ length lists.old.phases.now) × (2 * m ≤ length lists.old.pairs.now) }
+    ensures amplitudes { lists.new.amplitudes.now ≡ sets lists.old.amplitudes.now 0 (floats_at input.now at n) }
+    ensures phases { lists.new.phases.now ≡ sets lists.old.phases.now 0 (floats_at input.now (at + 4 * n) n) }
+    ensures pairs { lists.new.pairs.now ≡ sets lists.old.pairs.now 0 (floats_at input.now (at + 8 * n) (2 * m)) }
+    ensures same_references { SameLists lists.old lists.new }
 {
-    read_floats(input, at, amplitudes, n);
-    read_floats(input, at + 4 * n, phases, n);
-    read_floats(input, at + 8 * n, pairs, 2 * m);
+    read_floats(input, at, lists.amplitudes, n);
+    read_floats(input, at + 4 * n, lists.phases, n);
+    read_floats(input, at + 8 * n, lists.pairs, 2 * m);
 }
 
 // The floats after a header: the lists are written once all are known to be there.
@@ -251,12 +233,12 @@ fn read_body(
     input: &[u8],
     at: usize,
     h: Header,
-    amplitudes: &mut [u32],
-    phases: &mut [u32],
-    pairs: &mut [u32],
-) -> ReadRecord
-    requires { (h.subcarriers ≤ 256) × (h.pairs ≤ 256) × (at ≤ length input.now) × (256 ≤ length amplitudes.old) × (256 ≤ length phases.old) × (512 ≤ length pairs.old) }
-    ensures { read (paper result) amplitudes.new phases.new pairs.new ≡ stored (floats_after h at (drop at input.now)) amplitudes.old phases.old pairs.old }
+    lists: &mut ReadLists<'_>,
+) -> Result<Option<Record>, ReadError>
+    requires { (h.subcarriers ≤ 256) × (h.pairs ≤ 256) × (at ≤ length input.now) × (256 ≤ length lists.old.amplitudes.now) × (256 ≤ length lists.old.phases.now) × (512 ≤ length lists.old.pairs.now) }
+    ensures outcome { read (paper result) lists.new.amplitudes.now lists.new.phases.now lists.new.pairs.now
+        ≡ stored (floats_after h at (drop at input.now)) lists.old.amplitudes.now lists.old.phases.now lists.old.pairs.now }
+    ensures same_references { SameLists lists.old lists.new }
 {
     let n = h.subcarriers as usize;
     let m = h.pairs as usize;
@@ -264,108 +246,121 @@ fn read_body(
     let left = input.len() - at;
     if left < size {
         let offset = at + left / 4 * 4;
-        return ReadRecord::Refused {
-            fault: Fault::Cut,
-            offset,
-        };
+        let fault = Fault::Cut;
+        return Err(ReadError::Refused { fault, offset });
     }
     let quality = read_float(input, at);
-    let lists = at + 4;
     let next = at + size;
-    read_lists(input, lists, n, m, amplitudes, phases, pairs);
-    ReadRecord::Record {
-        header: Header {
-            session: h.session,
-            source: h.source,
-            time: h.time,
-            exposable: h.exposable,
-            subcarriers: h.subcarriers,
-            pairs: h.pairs,
-            quality,
-        },
-        next,
-    }
+    read_lists(input, at + 4, n, m, lists);
+    let header = Header { quality, ..h };
+    Ok(Some(Record { header, next }))
 }
 
-fn stores_long(amplitudes: usize, phases: usize, pairs: usize) -> bool
-    ensures { result ≡ stores_long amplitudes phases pairs }
+fn stores_long(lists: &ReadLists<'_>) -> bool
+    ensures { result ≡ stores_long (length lists.now.amplitudes.now) (length lists.now.phases.now) (length lists.now.pairs.now) }
 {
-    if amplitudes < 256 {
-        return false;
-    }
-    if phases < 256 {
-        return false;
-    }
-    512 <= pairs
+    256 <= lists.amplitudes.len() && 256 <= lists.phases.len() && 512 <= lists.pairs.len()
 }
 
-// Reads the record at a place of the input into the lent lists. On a refusal nothing is written.
+// Reads the record at a place of the input into the lent lists; `None` where no bytes are left. On a refusal nothing is written.
 pub fn read_record(
     input: &[u8],
     at: usize,
-    amplitudes: &mut [u32],
-    phases: &mut [u32],
-    pairs: &mut [u32],
-) -> ReadRecord
-    ensures { read (paper result) amplitudes.new phases.new pairs.new ≡ read_of input.now at amplitudes.old phases.old pairs.old }
+    lists: &mut ReadLists<'_>,
+) -> Result<Option<Record>, ReadError>
+    ensures outcome { read (paper result) lists.new.amplitudes.now lists.new.phases.now lists.new.pairs.now
+        ≡ read_of input.now at lists.old.amplitudes.now lists.old.phases.now lists.old.pairs.now }
+    ensures same_references { SameLists lists.old lists.new }
 {
-    if !stores_long(amplitudes.len(), phases.len(), pairs.len()) {
-        return ReadRecord::Stores;
+    if !stores_long(lists) {
+        return Err(ReadError::Stores);
     }
     if input.len() <= at {
-        return ReadRecord::Nothing;
+        return Ok(None);
     }
-    let r = read_head(input, at);
-    match r {
-        HeadRead::NoHead { fault, offset } => ReadRecord::Refused { fault, offset },
-        HeadRead::Head { header, next } => read_body(
-            input, next, header, amplitudes, phases, pairs,
-        ),
-    }
+    let head = read_head(input, at)?;
+    read_body(input, head.next, head.header, lists)
 }
 
 // ---- writing
-// How many bytes a number takes.
+
+// What a record is written of: its numbers, and its floats as their bits.
+trait Written: Copy {
+    // Its bytes.
+    ghost bytes: { Self → List ℕ };
+
+    // Writes them from `at` on, and returns the place after them.
+    fn write(self, out: &mut [u8], at: usize) -> usize
+        requires { at + length (bytes self) ≤ length out.old }
+        ensures place { result ≡ at + length (bytes self) }
+        ensures written { out.new ≡ sets out.old at (bytes self) };
+}
+
+impl Written for u64 {
+    ghost bytes = { number_bytes };
+
+    fn write(self, out: &mut [u8], at: usize) -> usize {
+        let mut rest = self;
+        let mut p = at;
+        // What is left of the number ends the loop: there is no range to go through.
+        while 127 < rest {
+            out[p] = (128 + rest % 128) as u8;
+            rest /= 128;
+            p += 1;
+        }
+        out[p] = rest as u8;
+        p + 1
+    }
+}
+
+// Four bytes, the lowest first.
+impl Written for u32 {
+    ghost bytes = { float_bytes };
+
+    fn write(self, out: &mut [u8], at: usize) -> usize {
+        out[at..at + 4].copy_from_slice(&self.to_le_bytes());
+        at + 4
+    }
+}
+
+// Writes values one behind the other, and returns the place after them.
+fn write_each<T: Written>(out: &mut [u8], at: usize, values: &[T]) -> usize
+    requires { at + length (each T.bytes values.now) ≤ length out.old }
+    ensures place { result ≡ at + length (each T.bytes values.now) }
+    ensures written { out.new ≡ sets out.old at (each T.bytes values.now) }
+{
+    let mut p = at;
+    for v in values {
+        p = v.write(out, p);
+    }
+    p
+}
+
+// How many bytes a number takes. What is left of it ends the loop: there is no index to count.
 fn number_width(v: u64) -> usize
     ensures { (result ≡ length (number_bytes v)) × (result ≤ 10) }
 {
     let mut rest = v;
     let mut n: usize = 1;
     while 127 < rest {
-        rest = rest / 128;
+        rest /= 128;
         n += 1;
     }
     n
-}
-
-// Writes a number from `at` on, and returns the place after it.
-fn write_number(out: &mut [u8], at: usize, v: u64) -> usize
-    requires { at + length (number_bytes v) ≤ length out.old }
-    ensures { (result ≡ at + length (number_bytes v)) × (out.new ≡ sets out.old at (number_bytes v)) }
-{
-    let mut rest = v;
-    let mut p = at;
-    while 127 < rest {
-        out[p] = (128 + rest % 128) as u8;
-        rest = rest / 128;
-        p += 1;
-    }
-    out[p] = rest as u8;
-    p + 1
-}
-
-fn flag_number(b: bool) -> u64
-    ensures { result ≡ flag_number b }
-{
-    if b { 1 } else { 0 }
 }
 
 // The six numbers of a record.
 fn numbers_of(h: Header) -> [u64; 6]
     ensures { result ≡ numbers_of h }
 {
-    let flag = flag_number(h.exposable);
-    [h.session, h.source, h.time, flag, h.subcarriers, h.pairs]
+    [
+        h.session,
+        h.source,
+        h.time,
+        u64::from(h.exposable),
+        h.subcarriers,
+        h.pairs,
+    ]
 }
 
 // How many bytes numbers in a row take.
@@ -374,113 +369,54 @@ fn numbers_width(vs: &[u64]) -> usize
     ensures { (result ≡ length (each number_bytes vs.now)) × (result ≤ 60) }
 {
     let mut sum: usize = 0;
-    let mut i = 0;
-    while i < vs.len() {
-        sum += number_width(vs[i]);
-        i += 1;
+    for v in vs {
+        sum += number_width(*v);
     }
     sum
 }
 
-fn write_numbers(out: &mut [u8], at: usize, vs: &[u64]) -> usize
-    requires { at + length (each number_bytes vs.now) ≤ length out.old }
-    ensures { (result ≡ at + length (each number_bytes vs.now)) × (out.new ≡ sets out.old at (each number_bytes vs.now)) }
-{
-    let mut p = at;
-    let mut i = 0;
-    while i < vs.len() {
-        p = write_number(out, p, vs[i]);
-        i += 1;
-    }
-    p
-}
-
-// Writes a float's four bytes, the lowest first.
-fn write_float(out: &mut [u8], at: usize, v: u32) -> usize
-    requires { at + 4 ≤ length out.old }
-    ensures { (result ≡ at + 4) × (out.new ≡ sets out.old at (float_bytes v)) }
-{
-    out[at] = (v % 256) as u8;
-    out[at + 1] = (v / 256 % 256) as u8;
-    out[at + 2] = (v / 65536 % 256) as u8;
-    out[at + 3] = (v / 16777216) as u8;
-    at + 4
-}
-
-fn write_floats(out: &mut [u8], at: usize, vs: &[u32]) -> usize
-    requires { at + length (each float_bytes vs.now) ≤ length out.old }
-    ensures { (result ≡ at + length (each float_bytes vs.now)) × (out.new ≡ sets out.old at (each float_bytes vs.now)) }
-{
-    let mut p = at;
-    let mut i = 0;
-    while i < vs.len() {
-        p = write_float(out, p, vs[i]);
-        i += 1;
-    }
-    p
-}
-
-fn write_all(
-    out: &mut [u8],
-    at: usize,
-    h: Header,
-    amplitudes: &[u32],
-    phases: &[u32],
-    pairs: &[u32],
-) -> usize
-    requires { at + length (record_bytes h amplitudes.now phases.now pairs.now) ≤ length out.old }
-    ensures { (result ≡ at + length (record_bytes h amplitudes.now phases.now pairs.now)) × (out.new ≡ sets out.old at (record_bytes h amplitudes.now phases.now pairs.now)) }
+fn write_all(out: &mut [u8], at: usize, h: Header, lists: &BitLists<'_>) -> usize
+    requires { at + length (record_bytes h lists.now.amplitudes.now lists.now.phases.now lists.now.pairs.now) ≤ length out.old }
+    ensures place { result ≡ at + length (record_bytes h lists.now.amplitudes.now lists.now.phases.now lists.now.pairs.now) }
+    ensures written { out.new ≡ sets out.old at (record_bytes h lists.now.amplitudes.now lists.now.phases.now lists.now.pairs.now) }
 {
     let vs = numbers_of(h);
-    let p1 = write_numbers(out, at, &vs);
-    let p2 = write_float(out, p1, h.quality);
-    let p3 = write_floats(out, p2, amplitudes);
-    let p4 = write_floats(out, p3, phases);
-    write_floats(out, p4, pairs)
+    let p1 = write_each(out, at, &vs);
+    let p2 = h.quality.write(out, p1);
+    let p3 = write_each(out, p2, lists.amplitudes);
+    let p4 = write_each(out, p3, lists.phases);
+    write_each(out, p4, lists.pairs)
 }
 
 // Reply 5's test: the counts, then the lists.
-fn counts_fit(h: Header, amplitudes: usize, phases: usize, pairs: usize) -> bool
-    ensures { result ≡ counted h amplitudes phases pairs }
+fn counts_fit(h: Header, lists: &BitLists<'_>) -> bool
+    ensures { result ≡ counted h (length lists.now.amplitudes.now) (length lists.now.phases.now) (length lists.now.pairs.now) }
 {
     let n = h.subcarriers;
     let m = h.pairs;
-    if 256 < n {
-        return false;
-    }
-    if 256 < m {
-        return false;
-    }
-    if amplitudes as u64 != n {
-        return false;
-    }
-    if phases as u64 != n {
-        return false;
-    }
-    pairs as u64 == 2 * m
+    n <= 256
+        && m <= 256
+        && lists.amplitudes.len() as u64 == n
+        && lists.phases.len() as u64 == n
+        && lists.pairs.len() as u64 == 2 * m
 }
 
-// Writes a record from a place of the output on. On a refusal nothing is written.
+// Writes a record from a place of the output on, and returns the place after it. On a refusal nothing is written.
 pub fn write_record(
     out: &mut [u8],
     at: usize,
     header: Header,
-    amplitudes: &[u32],
-    phases: &[u32],
-    pairs: &[u32],
-) -> Wrote
-    ensures { write (paper_wrote result) out.new ≡ write_of out.old at header amplitudes.now phases.now pairs.now }
+    lists: &BitLists<'_>,
+) -> Result<usize, WriteError>
+    ensures { write (paper_wrote result) out.new ≡ write_of out.old at header lists.now.amplitudes.now lists.now.phases.now lists.now.pairs.now }
 {
-    if !counts_fit(header, amplitudes.len(), phases.len(), pairs.len()) {
-        return Wrote::Counts;
+    if !counts_fit(header, lists) {
+        return Err(WriteError::Counts);
     }
-    let vs = numbers_of(header);
-    let need = numbers_width(&vs) + 4 + 4 * amplitudes.len() + 4 * phases.len() + 4 * pairs.len();
-    if out.len() < at {
-        return Wrote::Short;
+    let floats = 1 + lists.amplitudes.len() + lists.phases.len() + lists.pairs.len();
+    let need = numbers_width(&numbers_of(header)) + 4 * floats;
+    if out.len().saturating_sub(at) < need {
+        return Err(WriteError::Short);
     }
-    if out.len() - at < need {
-        return Wrote::Short;
-    }
-    Wrote::Written(write_all(out, at, header, amplitudes, phases, pairs))
+    Ok(write_all(out, at, header, lists))
 }

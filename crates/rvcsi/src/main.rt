@@ -2,6 +2,7 @@
 #![tactic(auto)]
 
 use std::env::{Env, FillError};
+use std::fmt::Display;
 use std::rt::Files;
 use std::{fs, str};
 
@@ -15,20 +16,21 @@ fn run_file(rt: &(impl Files + Print + Eprint), name: &str) {
     }
 }
 
+// Why the argument names no file, on standard error.
+fn bad_name(rt: &impl Eprint, why: impl Display + Drop) {
+    let _ = eprintln!(rt; "rvcsi: the file's name: {why}");
+}
+
 // The file named by the argument, or standard input.
 fn run_argument(rt: &HostRuntime) {
     let mut name = [0u8; 4096];
     match rt.arg(1, &mut name) {
         Ok(length) => match str::from_utf8(&name[..length]) {
             Ok(text) => run_file(rt, text),
-            Err(e) => {
-                let _ = eprintln!(rt; "rvcsi: the file's name: {e}");
-            }
+            Err(e) => bad_name(rt, e),
         },
         Err(FillError::NotPresent) => rvcsi_run::run(rt, &mut rt.stdin()),
-        Err(FillError::TooLong) => {
-            let _ = eprintln!(rt; "rvcsi: the file's name: File name too long");
-        }
+        Err(FillError::TooLong) => bad_name(rt, "File name too long"),
     }
 }
 

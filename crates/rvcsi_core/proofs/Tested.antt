@@ -1,13 +1,10 @@
 -- What a test's answer says. Assumes nothing.
 use mathlib.Core.Path.{◌≡◌, refl, sym, subst, ◌∙◌}
-use mathlib.Core.Bool.{Bool, true, false, ◌&&◌, cond}
+use mathlib.Core.Bool.{Bool, true, false, ◌&&◌}
 use Prim.Native.Nat.{ℕ, ◌+◌, ◌-◌, ◌<◌}
 use native.Mathlib.Omega.{arith}
 use lib.Dec.{T, leb}
-use borrow.Author.Tests.{le-leb, lt-leb, leb-true, leb-false}
-
-pub holds : {b : Bool} → b ≡ true → T b
-holds e = rw e tt
+use Rattle.std.proofs.lemmas.Bool.{le-leb, lt-leb, leb-true, leb-false}
 
 pub shown : (b : Bool) → T b → b ≡ true
 shown true t = refl
@@ -19,9 +16,6 @@ fails e t = subst T e t
 pub is_false : (b : Bool) → (T b → ⊥) → b ≡ false
 is_false true f = absurd (f tt)
 is_false false f = refl
-
-pub join : (a b : Bool) → a ≡ true → b ≡ true → (a && b) ≡ true
-join a b p q = rw (p, q)
 
 pub both : (a b : Bool) → T a → T b → T (a && b)
 both true b s t = t
@@ -35,11 +29,6 @@ parts false b t = absurd t
 pub known : {X : Type 0} (b : Bool) → (b ≡ true → X) → (b ≡ false → X) → X
 known true f g = f refl
 known false f g = g refl
-
--- what holds of both branches, each under its test
-pub either : {A : Type 0} (P : A → Type 0) (b : Bool) (x y : A) → (b ≡ true → P x) → (b ≡ false → P y) → P (cond b x y)
-either P true x y p q = p refl
-either P false x y p q = q refl
 
 -- one less on both sides
 pub leb_less : (n k : ℕ) → 0 < n → leb n (k + 1) ≡ leb (n - 1) k

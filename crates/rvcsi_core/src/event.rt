@@ -25,18 +25,16 @@ pub struct CsiEvent {
     pub window_id: u64,
 }
 
-#[derive(Clone, Copy)]
-pub enum EventValidity {
-    Valid,
-    ConfidenceOutOfRange(f32),
-}
+// Why an event is not valid: its confidence, which is not from 0 to 1.
+#[derive(Clone, Copy, Debug, PartialEq)]
+pub struct ConfidenceOutOfRange(pub f32);
 
 // Valid exactly when the confidence is from 0 to 1.
-pub fn validate(e: CsiEvent) -> EventValidity
+pub fn validate(e: CsiEvent) -> Result<(), ConfidenceOutOfRange>
     ensures { result ≡ event_validity_of e }
 {
     if !crate::score_ok(e.confidence) {
-        return EventValidity::ConfidenceOutOfRange(e.confidence);
+        return Err(ConfidenceOutOfRange(e.confidence));
     }
-    EventValidity::Valid
+    Ok(())
 }

@@ -1,6 +1,6 @@
 // The counters that number windows and events, each from 0 by one.
 ghost use Rattle.std.specs.Prelude.{◌≡◌};
-ghost use Rattle.rvcsi_core.specs.Counters.{fresh_ids, next_window, next_event};
+ghost use Rattle.rvcsi_core.specs.Counters.{fresh_ids, given, counted, next_window, next_event};
 
 #[derive(Clone, Copy)]
 pub struct Ids {
@@ -8,20 +8,14 @@ pub struct Ids {
     pub event: u64,
 }
 
-// A number handed out, or none: 2^64 - 1 itself is never given.
-#[derive(Clone, Copy)]
-pub enum Taken {
-    Number(u64),
-    Full,
-}
-
+// A number handed out, or none, and the counters after it, which come back by value: 2^64 - 1 itself is never given.
 #[derive(Clone, Copy)]
 pub struct Minted {
-    pub taken: Taken,
+    pub taken: Option<u64>,
     pub ids: Ids,
 }
 
-// Counters from which nothing was taken yet.
+// Counters from which nothing was taken yet: a call of the manual, so no default.
 pub fn fresh() -> Ids
     ensures { result ≡ fresh_ids }
 {
@@ -31,22 +25,24 @@ pub fn fresh() -> Ids
     }
 }
 
-// The next window number, and the counters after it.
+// The number that a counter gives, and the counter after it.
+fn take(n: u64) -> (Option<u64>, u64)
+    ensures { result ≡ (given n, counted n) }
+{
+    if n == u64::MAX {
+        return (None, n);
+    }
+    (Some(n), n + 1)
+}
+
+// The next window number, and the counters after it. Beside `next_event`, as each is a call of the manual; both are `take`.
 pub fn next_window(ids: Ids) -> Minted
     ensures { result ≡ next_window ids }
 {
-    if ids.window == 0xffff_ffff_ffff_ffff {
-        return Minted {
-            taken: Taken::Full,
-            ids: ids,
-        };
-    }
+    let (taken, window) = take(ids.window);
     Minted {
-        taken: Taken::Number(ids.window),
-        ids: Ids {
-            window: ids.window + 1,
-            event: ids.event,
-        },
+        taken,
+        ids: Ids { window, ..ids },
     }
 }
 
@@ -54,17 +50,9 @@ pub fn next_window(ids: Ids) -> Minted
 pub fn next_event(ids: Ids) -> Minted
     ensures { result ≡ next_event ids }
 {
-    if ids.event == 0xffff_ffff_ffff_ffff {
-        return Minted {
-            taken: Taken::Full,
-            ids: ids,
-        };
-    }
+    let (taken, event) = take(ids.event);
     Minted {
-        taken: Taken::Number(ids.event),
-        ids: Ids {
-            window: ids.window,
-            event: ids.event + 1,
-        },
+        taken,
+        ids: Ids { event, ..ids },
     }
 }

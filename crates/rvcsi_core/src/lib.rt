@@ -14,10 +14,7 @@ pub mod window;
 fn score_ok(x: f32) -> bool
     ensures { result ≡ score_ok x }
 {
-    if 0.0 <= x {
-        return x <= 1.0;
-    }
-    false
+    0.0 <= x && x <= 1.0
 }
 
 // Does a threshold lie from 0 to 1,000,000? A NaN does not.

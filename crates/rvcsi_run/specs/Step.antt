@@ -7,6 +7,7 @@ use Rattle.pipeline.specs.Process.{Outcome, process_of}
 use Rattle.rvcsi_run.specs.Frames.{frame_of, first_of, pairs_of}
 use Rattle.rvcsi_run.specs.Course.{moved_to, stopped_by, counted_by}
 use Rattle.rvcsi_run.specs.declared.Course.{Course}
+use Rattle.rvcsi_run.specs.declared.State.TheVariants.{Ended, Stopped}
 
 -- all that comes out
 pub record Step : Type 0 where
@@ -39,8 +40,8 @@ step_with (header h next) written run d A P B M W =
     answered written (moved_to run next)
     (process_of run.ids run.pipeline (frame_of h) (first_of h.subcarriers d.amplitudes) (first_of h.subcarriers d.phases)
     (pairs_of h.pairs d.pairs) A P B M W)
-step_with (place k) written run d A P B M W = stepped (stopped_by run d.reply.number ((run.cursor.base + k) % 2 ^ 64)) A P B M W
-step_with nothing written run d A P B M W = stepped (stopped_by run 0 0) A P B M W
+step_with (place k) written run d A P B M W = stepped (stopped_by run (Stopped d.reply.number ((run.cursor.base + k) % 2 ^ 64))) A P B M W
+step_with nothing written run d A P B M W = stepped (stopped_by run Ended) A P B M W
 
 unfoldable pub step_of : Bool → List ℕ → Course → List Float → List Float → List Float → List Float → List Float → Step
 step_of written bytes run A P B M W =

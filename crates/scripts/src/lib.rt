@@ -1,242 +1,202 @@
-// The commands of a script, as they stand in 65,536 bytes of input: numbers, lengths, settings and frames.
+// The commands of a script, read from bytes.
 #![tactic(auto)]
 
+pub mod input;
+
 use buffer_rules::WindowBufferConfig;
-use detectors::motion::MotionConfig;
-use detectors::presence::PresenceConfig;
-use detectors::quality::QualityConfig;
-use drift::BaselineDriftConfig;
+use forging::{Field, numbers};
 use rvcsi_core::frame::CsiFrame;
-use slots::DetectorConfig;
-use std::io;
-use std::io::Read;
+use slots::{DetectorConfig, DetectorKind};
+
+// How many floats a list of a frame has at most.
+pub const MOST: usize = 600;
+
+// How many places of each store the calls that follow are lent.
+#[derive(Clone, Copy)]
+pub struct Lent {
+    pub amplitudes: usize,
+    pub phases: usize,
+    pub baseline: usize,
+    pub means: usize,
+    pub variances: usize,
+}
+
+// A frame with its lists.
+#[derive(Clone, Copy)]
+pub struct Frame<'a> {
+    pub frame: CsiFrame,
+    pub amplitudes: Floats<'a>,
+    pub phases: Floats<'a>,
+    pub pairs: Floats<'a>,
+}
+
+#[derive(Clone, Copy)]
+pub enum Command<'a> {
+    End,
+    New {
+        session_id: u64,
+        source_id: u64,
+        config: WindowBufferConfig,
+    },
+    Add(DetectorConfig),
+    Lend(Lent),
+    Frame(Frame<'a>),
+    Flush,
+    // of no field where the code names none
+    Forge {
+        field: Option<Field>,
+        index: usize,
+        value: u64,
+    },
+    Look,
+}
 
 // ---- numbers, low byte first
 
-// The byte k places behind `at`; 0 past the end.
-pub fn byte(input: &[u8; 65536], at: usize, k: usize) -> u8 {
-    let i = std::num::wrapping_add_usize(at, k);
-    if i < 65536 {
-        return input[i];
+// The bytes that are still to be read. A number that is not there whole is none.
+#[derive(Drop)]
+struct Bytes<'a> {
+    rest: &'a [u8],
+}
+
+impl<'a> Bytes<'a> {
+    fn take<const N: usize>(&mut self) -> Option<[u8; N]> {
+        let (first, rest) = self.rest.split_first_chunk::<N>()?;
+        self.rest = rest;
+        Some(*first)
     }
-    0
+
+    fn byte(&mut self) -> Option<u8> {
+        let [b] = self.take::<1>()?;
+        Some(b)
+    }
+
+    fn short(&mut self) -> Option<usize> {
+        let bytes = self.take::<2>()?;
+        Some(usize::from(u16::from_le_bytes(bytes)))
+    }
+
+    fn word(&mut self) -> Option<u32> {
+        let bytes = self.take::<4>()?;
+        Some(u32::from_le_bytes(bytes))
+    }
+
+    // A word as a size.
+    fn size(&mut self) -> Option<usize> {
+        Some(self.word()? as usize)
+    }
+
+    fn long(&mut self) -> Option<u64> {
+        let bytes = self.take::<8>()?;
+        Some(u64::from_le_bytes(bytes))
+    }
+
+    fn float(&mut self) -> Option<f32> {
+        Some(floats::from_bits(self.word()?))
+    }
+
+    // A list of so many floats.
+    fn floats(&mut self, n: usize) -> Option<Floats<'a>> {
+        let (bytes, rest) = self.rest.split_at_checked(n.checked_mul(4)?)?;
+        self.rest = rest;
+        let (floats, _) = bytes.as_chunks::<4>();
+        Some(Floats(floats))
+    }
 }
 
-fn wide(b: u8) -> u32 {
-    b as u32
-}
+// A list of floats by their bytes.
+#[derive(Clone, Copy)]
+pub struct Floats<'a>(&'a [[u8; 4]]);
 
-fn wide_word(w: u32) -> u64 {
-    w as u64
-}
-
-pub fn word(input: &[u8; 65536], at: usize, k: usize) -> u32 {
-    let i = std::num::wrapping_add_usize(at, k);
-    let a = wide(byte(input, i, 0));
-    let b = wide(byte(input, i, 1));
-    let c = wide(byte(input, i, 2));
-    let d = wide(byte(input, i, 3));
-    a | b << 8 | c << 16 | d << 24
-}
-
-pub fn long(input: &[u8; 65536], at: usize, k: usize) -> u64 {
-    let i = std::num::wrapping_add_usize(at, k);
-    let low = wide_word(word(input, i, 0));
-    let high = wide_word(word(input, i, 4));
-    low | high << 32
-}
-
-pub fn size(x: u64) -> usize {
-    x as usize
-}
-
-// A word as a size.
-pub fn word_size(input: &[u8; 65536], at: usize, k: usize) -> usize {
-    size(wide_word(word(input, at, k)))
-}
-
-pub fn float(input: &[u8; 65536], at: usize, k: usize) -> f32 {
-    floats::from_bits(word(input, at, k))
+impl Floats<'_> {
+    // Puts them at the start of the list, as many as it takes, and gives that part of it.
+    pub fn put<'b>(&self, list: &'b mut [f32; MOST]) -> &'b [f32] {
+        let n = self.0.len().min(MOST);
+        for (place, bytes) in list.iter_mut().zip(self.0) {
+            *place = floats::from_bits(u32::from_le_bytes(*bytes));
+        }
+        &list[..n]
+    }
 }
 
 // ---- commands
 
-// The length of a frame's list, which stands k places behind `at`.
-pub fn list_length(input: &[u8; 65536], at: usize, k: usize) -> usize {
-    let i = std::num::wrapping_add_usize(at, k);
-    let a = wide(byte(input, i, 0));
-    let b = wide(byte(input, i, 1));
-    size(wide_word(a | b << 8))
-}
-
-// The bytes of a frame; 0 if a list has more than 600 floats.
-fn frame_length(input: &[u8; 65536], at: usize) -> usize {
-    let a = list_length(input, at, 38);
-    let p = list_length(input, at, 40);
-    let q = list_length(input, at, 42);
-    if 600 < a {
-        return 0;
-    }
-    if 600 < p {
-        return 0;
-    }
-    if 600 < q {
-        return 0;
-    }
-    44 + 4 * (a + p + q)
-}
-
-// The bytes of the command at `at`; 0 if it is none.
-pub fn command_length(input: &[u8; 65536], at: usize) -> usize {
-    let op = byte(input, at, 0);
-    match op {
-        0 => 1,
-        1 => 37,
-        2 => 18,
-        3 => 21,
-        4 => frame_length(input, at),
-        5 => 1,
-        6 => 11,
-        7 => 1,
-        _ => 0,
+impl<'a> Command<'a> {
+    // The command at the start of the bytes and how many it takes, if it is one and there whole.
+    pub fn read(bytes: &'a [u8]) -> Option<(Command<'a>, usize)> {
+        let mut from = Bytes { rest: bytes };
+        let command = match from.byte()? {
+            0 => Command::End,
+            1 => Command::New {
+                session_id: from.long()?,
+                source_id: from.long()?,
+                config: read_config(&mut from)?,
+            },
+            2 => Command::Add(read_settings(&mut from)?),
+            3 => Command::Lend(read_lent(&mut from)?),
+            4 => Command::Frame(read_frame(&mut from)?),
+            5 => Command::Flush,
+            6 => Command::Forge {
+                field: Field::try_from(from.byte()?).ok(),
+                index: usize::from(from.byte()?),
+                value: from.long()?,
+            },
+            7 => Command::Look,
+            _ => return None,
+        };
+        Some((command, bytes.len().saturating_sub(from.rest.len())))
     }
 }
 
-pub fn buffer_config(input: &[u8; 65536], at: usize) -> WindowBufferConfig {
-    let max_frames = size(long(input, at, 17));
-    let max_duration_ns = long(input, at, 25);
-    let presence_threshold = float(input, at, 33);
-    WindowBufferConfig {
-        max_frames,
-        max_duration_ns,
-        presence_threshold,
-    }
-}
-
-fn presence_config(input: &[u8; 65536], at: usize) -> DetectorConfig {
-    let on_threshold = float(input, at, 2);
-    let off_threshold = float(input, at, 6);
-    let enter_windows = word(input, at, 10);
-    let exit_windows = word(input, at, 14);
-    DetectorConfig::Presence(PresenceConfig {
-        on_threshold,
-        off_threshold,
-        enter_windows,
-        exit_windows,
+// The settings of a buffer.
+fn read_config(from: &mut Bytes<'_>) -> Option<WindowBufferConfig> {
+    Some(WindowBufferConfig {
+        max_frames: from.long()? as usize,
+        max_duration_ns: from.long()?,
+        presence_threshold: from.float()?,
     })
 }
 
-fn motion_config(input: &[u8; 65536], at: usize) -> DetectorConfig {
-    let on_threshold = float(input, at, 2);
-    let off_threshold = float(input, at, 6);
-    let debounce_windows = word(input, at, 10);
-    DetectorConfig::Motion(MotionConfig {
-        on_threshold,
-        off_threshold,
-        debounce_windows,
+// The settings of a detector. At the number of no kind they are some that are never accepted.
+fn read_settings(from: &mut Bytes<'_>) -> Option<DetectorConfig> {
+    let kind = from.byte()?;
+    let words = [from.word()?, from.word()?, from.word()?, from.word()?];
+    Some(match numbers::kind(kind) {
+        Some(kind) => numbers::settings(kind, words),
+        None => numbers::settings(DetectorKind::Presence, [0; 4]),
     })
 }
 
-fn quality_config(input: &[u8; 65536], at: usize) -> DetectorConfig {
-    let drop_threshold = float(input, at, 2);
-    let debounce_windows = word(input, at, 6);
-    let calib_windows = word(input, at, 10);
-    DetectorConfig::Quality(QualityConfig {
-        drop_threshold,
-        debounce_windows,
-        calib_windows,
+fn read_lent(from: &mut Bytes<'_>) -> Option<Lent> {
+    Some(Lent {
+        amplitudes: from.size()?,
+        phases: from.size()?,
+        baseline: from.size()?,
+        means: from.size()?,
+        variances: from.size()?,
     })
 }
 
-fn drift_config(input: &[u8; 65536], at: usize) -> DetectorConfig {
-    let drift_threshold = float(input, at, 2);
-    let drift_windows = word(input, at, 6);
-    let anomaly_threshold = float(input, at, 10);
-    let ewma_alpha = float(input, at, 14);
-    DetectorConfig::Drift(BaselineDriftConfig {
-        drift_threshold,
-        drift_windows,
-        anomaly_threshold,
-        ewma_alpha,
+// A frame with a list of too many floats is none.
+fn read_frame<'a>(from: &mut Bytes<'a>) -> Option<Frame<'a>> {
+    let frame = CsiFrame {
+        session_id: from.long()?,
+        source_id: from.long()?,
+        timestamp_ns: from.long()?,
+        exposable: from.byte()?,
+        subcarrier_count: from.size()?,
+        pair_count: from.size()?,
+        quality_score: from.float()?,
+    };
+    let lengths = [from.short()?, from.short()?, from.short()?];
+    if lengths.iter().any(|n| MOST < *n) {
+        return None;
+    }
+    let [amplitudes, phases, pairs] = lengths;
+    Some(Frame {
+        frame,
+        amplitudes: from.floats(amplitudes)?,
+        phases: from.floats(phases)?,
+        pairs: from.floats(pairs)?,
     })
-}
-
-// Settings that are never accepted: they stand for a kind that is none.
-fn no_config() -> DetectorConfig {
-    DetectorConfig::Presence(PresenceConfig {
-        on_threshold: 0.0,
-        off_threshold: 0.0,
-        enter_windows: 0,
-        exit_windows: 0,
-    })
-}
-
-// The settings of an adding.
-pub fn detector_config(input: &[u8; 65536], at: usize) -> DetectorConfig {
-    let kind = byte(input, at, 1);
-    match kind {
-        0 => presence_config(input, at),
-        1 => motion_config(input, at),
-        2 => quality_config(input, at),
-        3 => drift_config(input, at),
-        _ => no_config(),
-    }
-}
-
-// The fixed part of a frame.
-pub fn frame_of(input: &[u8; 65536], at: usize) -> CsiFrame {
-    let session_id = long(input, at, 1);
-    let source_id = long(input, at, 9);
-    let timestamp_ns = long(input, at, 17);
-    let exposable = byte(input, at, 25);
-    let subcarrier_count = word_size(input, at, 26);
-    let pair_count = word_size(input, at, 30);
-    let quality_score = float(input, at, 34);
-    CsiFrame {
-        session_id,
-        source_id,
-        timestamp_ns,
-        exposable,
-        subcarrier_count,
-        pair_count,
-        quality_score,
-    }
-}
-
-// Puts the n floats from `at` on at the start of the list; returns the place after them.
-pub fn read_floats(input: &[u8; 65536], at: usize, n: usize, list: &mut [f32; 600]) -> usize {
-    let mut from = at;
-    let k = lists::shorter(n, 600);
-    for i in 0..k {
-        list[i] = float(input, from, 0);
-        from = std::num::wrapping_add_usize(from, 4);
-    }
-    from
-}
-
-// Reads behind the first `kept` bytes; returns how many bytes there are then.
-fn read_behind<R: Read>(reader: &mut R, input: &mut [u8], kept: usize) -> io::Result<usize> {
-    let n = lists::shorter(kept, input.len());
-    let got = reading::read_full(reader, &mut input[n..])?;
-    Ok(std::num::wrapping_add_usize(n, got))
-}
-
-// Brings the bytes from `from` to `to` to the front and reads behind them; returns how many bytes there are then.
-pub fn refill<R: Read>(
-    reader: &mut R,
-    input: &mut [u8; 65536],
-    from: usize,
-    to: usize,
-) -> io::Result<usize> {
-    if 65536 < to {
-        return Ok(0);
-    }
-    if to < from {
-        return Ok(0);
-    }
-    let kept = to - from;
-    for i in 0..kept {
-        input[i] = input[from + i];
-    }
-    read_behind(reader, input, kept)
 }

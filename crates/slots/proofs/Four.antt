@@ -8,7 +8,7 @@ use borrow.Author.Tests.{leb-true}
 use lib.Dec.{eqb, leb, ltb}
 use lib.ListN.{set}
 use Rattle.lists.specs.All.{all_to}
-use Rattle.lists.proofs.Tests.{and2}
+use Rattle.std.proofs.lemmas.Bool.{and_parts}
 use Rattle.slots.specs.Limits.{places}
 use Rattle.slots.specs.declared.Detector.{Detector}
 use Rattle.slots.specs.declared.Detector.TheVariants.{Presence, Motion, Quality, Drift}
@@ -23,9 +23,9 @@ every p = p 0 && (p 1 && (p 2 && p 3))
 
 of_each : (p : ℕ → Bool) → every p ≡ true → (d : Detector) → p (kind_number d) ≡ true
 of_each p h d =
-    let a = and2 (p 0) (p 1 && (p 2 && p 3)) h in
-    let b = and2 (p 1) (p 2 && p 3) a.1 in
-    let c = and2 (p 2) (p 3) b.1 in
+    let a = and_parts (p 0) (p 1 && (p 2 && p 3)) h in
+    let b = and_parts (p 1) (p 2 && p 3) a.1 in
+    let c = and_parts (p 2) (p 3) b.1 in
     go a.0 b.0 c.0 c.1 d
   where
     go : p 0 ≡ true → p 1 ≡ true → p 2 ≡ true → p 3 ≡ true → (d : Detector) → p (kind_number d) ≡ true
@@ -70,8 +70,8 @@ module _ (l : List Slot) (d : Detector) where
 pub place_left : (s : Detectors) (d : Detector) → set_ok s ≡ true → all_to (other_at s.slots d) s.count ≡ true → ltb s.count places ≡ true
 unfolding set_ok
 place_left s d h g =
-    let a = and2 (leb s.count places) (all_to (in_at s.slots) s.count && all_to (fresh_at s.slots) s.count) h in
-    let b = and2 (all_to (in_at s.slots) s.count) (all_to (fresh_at s.slots) s.count) a.1 in
+    let a = and_parts (leb s.count places) (all_to (in_at s.slots) s.count && all_to (fresh_at s.slots) s.count) h in
+    let b = and_parts (all_to (in_at s.slots) s.count) (all_to (fresh_at s.slots) s.count) a.1 in
     go s.count (leb-true _ _ a.0) b.1 g
   where
     go : (n : ℕ) → n ≤ places → all_to (fresh_at s.slots) n ≡ true → all_to (other_at s.slots d) n ≡ true → ltb n places ≡ true

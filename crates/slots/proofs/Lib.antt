@@ -10,3 +10,4 @@ pub mod Keen
 pub mod Arms
 pub mod Pushes
 pub mod Rounds
+pub mod Taken

@@ -1,4 +1,5 @@
 -- Reply 0 is owed: a fresh set is in range, adding and judging leave it in range, and a set in range is judged. Assumes nothing.
+use Rattle.std.specs.Prelude.{Ok}
 use mathlib.Core.Path.{◌≡◌, refl, sym, ap, subst, ◌∙◌}
 use mathlib.Core.Bool.{Bool, true, false, ◌&&◌, cond}
 use mathlib.Core.List.{List}
@@ -11,7 +12,7 @@ use lib.Seq.{get_or-set_same, get_or-set_other}
 use lib.Ieee.{Float}
 use Rattle.lists.specs.All.{all_to}
 use Rattle.lists.proofs.All.{all_each}
-use Rattle.lists.proofs.Tests.{and2}
+use Rattle.std.proofs.lemmas.Bool.{and_parts}
 use Rattle.rvcsi_core.specs.declared.window.CsiWindow.{CsiWindow}
 use Rattle.rvcsi_core.specs.declared.ids.Ids.{Ids}
 use Rattle.detectors.proofs.Ranges.{presence-stays, presence_begins, motion-stays, motion_begins, quality-stays, quality_begins}
@@ -26,8 +27,8 @@ use Rattle.slots.specs.declared.Slot.{Slot}
 use Rattle.slots.specs.Slots.{detector_in, kind_number, step_of, place_of, part_of, with_part, detector_at, in_at, other_at, fresh_at, set_ok, blank}
 use Rattle.slots.specs.Adding.{no_detectors, config_accepted, made_of, Adding, unless, left, put_of, add_of}
 use Rattle.slots.specs.Judging.{hear_to, verdict_of, Outcome, done, refused_with, judge_of, AllReady}
-use Rattle.slots.specs.declared.Reply.TheVariants.{Done}
 use Rattle.slots.proofs.Places.{as_many, its_own}
+use Rattle.slots.proofs.Taken.{all_true}
 use Rattle.slots.proofs.Rounds.{fine, all_ready}
 
 -- ---- a set as a record of its two lists of tests
@@ -36,16 +37,11 @@ pub record SetIn (slots : List Slot) (n : ℕ) : Type 0 where
   pub all_in : (i : ℕ) → i < n → in_at slots i ≡ true
   pub apart : (i : ℕ) → i < n → (j : ℕ) → j < i → other_at slots (detector_at slots i) j ≡ true
 
-all_true : (p : ℕ → Bool) (n : ℕ) → ((i : ℕ) → i < n → p i ≡ true) → all_to p n ≡ true
-unfolding all_to
-all_true p zero h = refl
-all_true p (suc n) h = rw (all_true p n (λ i b. h i (omega arith)), h n (omega arith))
-
 pub set_in : (s : Detectors) → set_ok s ≡ true → SetIn s.slots s.count
 unfolding set_ok
 set_in s h =
-    let a = and2 (leb s.count places) (all_to (in_at s.slots) s.count && all_to (fresh_at s.slots) s.count) h in
-    let b = and2 (all_to (in_at s.slots) s.count) (all_to (fresh_at s.slots) s.count) a.1 in
+    let a = and_parts (leb s.count places) (all_to (in_at s.slots) s.count && all_to (fresh_at s.slots) s.count) h in
+    let b = and_parts (all_to (in_at s.slots) s.count) (all_to (fresh_at s.slots) s.count) a.1 in
     record {
       few = leb-true _ _ a.0;
       all_in = all_each (in_at s.slots) s.count b.0;
@@ -214,7 +210,7 @@ module _ (P : Outcome → Type 0) (i : Ids) (s : Detectors) (w : CsiWindow) (mea
       v = verdict_of i s (length means) (length store)
 
       go : (b : Bool) → b ≡ eqb v 0 → P (cond b (done i s.count w (hear_to (step_of w means) s.slots store s.count)) (refused_with v i s store))
-      go true e = p (all_ready i s (length means) (length store) Done (sym (eqb→eq v 0 (subst T e tt))) refl)
+      go true e = p (all_ready i s (length means) (length store) (Ok tt) (sym (eqb→eq v 0 (subst T e tt))) refl)
       go false e = q v
 
 -- whatever the reply, a set in range stays in range, and the store keeps its length

@@ -1,4 +1,5 @@
 -- A batch as the code makes it is the batch of the list of events. Assumes nothing.
+use Rattle.std.specs.Prelude.{Option, Some, None}
 use mathlib.Core.Path.{◌≡◌, refl, sym, ap, ◌∙◌}
 use mathlib.Core.Bool.{Bool, true, false, cond}
 use mathlib.Core.List.{List, [], ◌∷◌, ◌++◌, append-nil}
@@ -8,24 +9,21 @@ use native.Mathlib.Omega.{arith}
 use borrow.Author.Tests.{lt-ltb, le-ltb, ltb-true, ltb-false}
 use lib.Dec.{ltb}
 use lib.ListN.{set, length, replicate, length-append}
-use lib.Ieee.{Float}
 use Rattle.rvcsi_core.specs.declared.window.CsiWindow.{CsiWindow}
 use Rattle.rvcsi_core.specs.declared.event.CsiEvent.{CsiEvent}
-use Rattle.rvcsi_core.specs.declared.event.CsiEventKind.{CsiEventKind}
 use Rattle.slots.specs.Limits.{most}
 use Rattle.slots.specs.declared.Batch.{Batch}
-use Rattle.slots.specs.declared.Told.{Told}
-use Rattle.slots.specs.declared.Told.TheVariants.{Nothing, Event}
-use Rattle.slots.specs.Batches.{Note, note_of, event_of, none, numbered, fill, batch_of, nothing, added, pushed}
+use Rattle.detectors.specs.declared.Judgement.{Judgement}
+use Rattle.slots.specs.Batches.{heard, event_of, none, numbered, fill, batch_of, nothing, added, pushed}
 
 -- ---- the code's push
-module _ (w : CsiWindow) (n : ℕ) (b : Batch) (t : Told) where
-  pub quiet : t ≡ Nothing → b ≡ pushed w n b t
+module _ (w : CsiWindow) (n : ℕ) (b : Batch) (t : Option Judgement) where
+  pub quiet : t ≡ None → b ≡ pushed w n b t
   unfolding pushed
   quiet e = rw e
 
-  module _ (k : CsiEventKind) (x : Float) (e : t ≡ Event k x) where
-    pub stored : b.count < most → record { events = set b.events b.count (event_of w (n + b.count) (record { kind = k; confidence = x })); count = b.count + 1 } ≡ pushed w n b t
+  module _ (j : Judgement) (e : t ≡ Some j) where
+    pub stored : b.count < most → record { events = set b.events b.count (event_of w (n + b.count) j); count = b.count + 1 } ≡ pushed w n b t
     unfolding pushed
     stored h = rw (e, lt-ltb b.count most h)
 
@@ -34,13 +32,13 @@ module _ (w : CsiWindow) (n : ℕ) (b : Batch) (t : Told) where
     full h = rw (e, le-ltb b.count most h)
 
 -- ---- the list
-numbered_behind : (w : CsiWindow) (n : ℕ) (l : List Note) (j : Note) → numbered w n (l ++ (j ∷ [])) ≡ numbered w n l ++ (event_of w (n + length l) j ∷ [])
+numbered_behind : (w : CsiWindow) (n : ℕ) (l : List Judgement) (j : Judgement) → numbered w n (l ++ (j ∷ [])) ≡ numbered w n l ++ (event_of w (n + length l) j ∷ [])
 unfolding numbered
 numbered_behind w n [] j = ap (λ (k : ℕ). event_of w k j ∷ []) (omega arith)
 numbered_behind w n (x ∷ l) j =
     ap (λ (t : List CsiEvent). event_of w n x ∷ t) (numbered_behind w (n + 1) l j ∙ ap (λ (k : ℕ). numbered w (n + 1) l ++ (event_of w k j ∷ [])) (omega arith))
 
-pub numbered_length : (w : CsiWindow) (n : ℕ) (l : List Note) → length (numbered w n l) ≡ length l
+pub numbered_length : (w : CsiWindow) (n : ℕ) (l : List Judgement) → length (numbered w n l) ≡ length l
 unfolding numbered
 numbered_length w n [] = refl
 numbered_length w n (x ∷ l) = ap suc (numbered_length w (n + 1) l)
@@ -87,13 +85,13 @@ within l e false g =
     let m : min (length l) most ≡ most = omega arith in
     rw (le-ltb (min (length l) most) most (omega arith)) (no_more l (e (length l)) h)
 
-one : (w : CsiWindow) (n : ℕ) (ts : List Note) (t : Note) → added w n (batch_of (numbered w n ts)) t ≡ batch_of (numbered w n (ts ++ (t ∷ [])))
+one : (w : CsiWindow) (n : ℕ) (ts : List Judgement) (t : Judgement) → added w n (batch_of (numbered w n ts)) t ≡ batch_of (numbered w n (ts ++ (t ∷ [])))
 one w n ts t =
     within (numbered w n ts) (λ k. event_of w (n + k) t) _ refl
     ∙ ap batch_of (ap (λ (k : ℕ). numbered w n ts ++ (event_of w (n + k) t ∷ [])) (numbered_length w n ts) ∙ sym (numbered_behind w n ts t))
 
--- WHAT IS TOLD JOINS THE LIST
-pub pushed_is : (w : CsiWindow) (n : ℕ) (ts : List Note) (t : Told) → pushed w n (batch_of (numbered w n ts)) t ≡ batch_of (numbered w n (ts ++ note_of t))
+-- WHAT IS SAID JOINS THE LIST
+pub pushed_is : (w : CsiWindow) (n : ℕ) (ts : List Judgement) (t : Option Judgement) → pushed w n (batch_of (numbered w n ts)) t ≡ batch_of (numbered w n (ts ++ heard t))
 unfolding pushed
-pushed_is w n ts Nothing = ap (λ (l : List Note). batch_of (numbered w n l)) (sym (append-nil ts))
-pushed_is w n ts (Event k x) = one w n ts (record { kind = k; confidence = x })
+pushed_is w n ts None = ap (λ (l : List Judgement). batch_of (numbered w n l)) (sym (append-nil ts))
+pushed_is w n ts (Some j) = one w n ts j

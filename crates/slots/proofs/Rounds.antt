@@ -1,4 +1,5 @@
 -- The loop over the slots, and the whole of `judge`. Assumes nothing.
+use Rattle.std.specs.Prelude.{Ok, Err}
 use mathlib.Core.Path.{◌≡◌, refl, sym, ap, ◌∙◌}
 use mathlib.Core.Bool.{Bool, true, false, ◌&&◌}
 use mathlib.Core.List.{List, ◌++◌, append_assoc}
@@ -12,7 +13,7 @@ use lib.ListN.{set, length, take, drop, replicate}
 use lib.Ieee.{Float}
 use Rattle.lists.specs.All.{all_to}
 use Rattle.lists.specs.Tab.{tab}
-use Rattle.lists.proofs.Tests.{and2}
+use Rattle.std.proofs.lemmas.Bool.{and_parts}
 use Rattle.lists.proofs.All.{all_each}
 use Rattle.rvcsi_core.specs.declared.window.CsiWindow.{CsiWindow}
 use Rattle.rvcsi_core.specs.declared.ids.Ids.{Ids}
@@ -21,16 +22,14 @@ use Rattle.slots.specs.declared.Detector.{Detector}
 use Rattle.slots.specs.declared.Detectors.{Detectors}
 use Rattle.slots.specs.declared.Slot.{Slot}
 use Rattle.slots.specs.declared.Batch.{Batch}
-use Rattle.slots.specs.declared.Stepped.{Stepped}
-use Rattle.slots.specs.declared.Told.{Told}
+use Rattle.detectors.specs.declared.Judgement.{Judgement}
+use Rattle.detectors.specs.declared.Moved.{Moved}
 use Rattle.slots.specs.declared.Round as Code
 use Rattle.slots.specs.declared.Refusal.{Refusal}
 use Rattle.slots.specs.declared.Refusal.TheVariants.{StoreShort, OutOfRange, TooLong, NoNumber}
-use Rattle.slots.specs.declared.Reply.{Reply}
-use Rattle.slots.specs.declared.Reply.TheVariants.{Done, Refused}
 use Rattle.slots.specs.Slots.{Step, stepped, step_of, place_of, part_of, with_part, detector_at, in_at, fresh_at, set_ok, kind_at, kinds_of, Ready}
-use Rattle.slots.specs.Batches.{Note, told_of, heard, numbered, batch_of, nothing, pushed}
-use Rattle.slots.specs.Judging.{Stepping, Heard, heard_with, hear_to, unless, paper, verdict_of, judge_of, Round, round, round_with, one_of, judge_to, AllReady}
+use Rattle.slots.specs.Batches.{heard, numbered, batch_of, nothing, pushed}
+use Rattle.slots.specs.Judging.{Stepping, Heard, heard_with, hear_to, unless, Reply, paper, verdict_of, judge_of, Round, round, round_with, one_of, judge_to, AllReady}
 use Rattle.slots.proofs.Pushes.{nothing_is, pushed_is}
 
 -- ---- a part lent and back
@@ -42,15 +41,15 @@ module _ (at e : ℕ) (is-end : e ≡ at + part) (xs : List Float) where
   back_is ys = ap (λ (z : List Float). take at xs ++ (ys ++ z)) (Post-is at e xs (omega arith) ∙ ap (λ (k : ℕ). drop k xs) is-end)
 
 -- one slot
-pub one : (step : Stepping) (w : CsiWindow) (first : ℕ) (d : Detector) (i : ℕ) (g : Code.Round) (xs ys : List Float) (s : Stepped) (p q : Batch) (x y : Told) (at e : ℕ) → at ≡ place_of i → e ≡ at + part
-    → stepped s ys ≡ step d (mid_of at (e - at) xs) → x ≡ told_of s.first → p ≡ pushed w first g.batch x → y ≡ told_of s.second → q ≡ pushed w first p y
-    → record { slots = set g.slots i (record { detector = s.detector }); batch = q; store = put_mid at (e - at) xs ys } ≡ one_of step w first d i (round g xs)
-one step w first d i g xs ys s p q x y at e a b c ex f ey h =
+pub one : (step : Stepping) (w : CsiWindow) (first : ℕ) (d : Detector) (i : ℕ) (g : Code.Round) (xs ys : List Float) (s : Moved Detector) (p q : Batch) (at e : ℕ) → at ≡ place_of i → e ≡ at + part
+    → stepped s ys ≡ step d (mid_of at (e - at) xs) → p ≡ pushed w first g.batch s.first → q ≡ pushed w first p s.second
+    → record { slots = set g.slots i (record { detector = s.state }); batch = q; store = put_mid at (e - at) xs ys } ≡ one_of step w first d i (round g xs)
+one step w first d i g xs ys s p q at e a b c f h =
     let st : put_mid at (e - at) xs ys ≡ with_part (place_of i) xs ys = back_is at e b xs ys ∙ ap (λ (k : ℕ). with_part k xs ys) a in
-    let bt : q ≡ pushed w first (pushed w first g.batch (told_of s.first)) (told_of s.second) = rw (h, f, ex, ey) in
+    let bt : q ≡ pushed w first (pushed w first g.batch s.first) s.second = rw (h, f) in
     let sp : stepped s ys ≡ step d (part_of (place_of i) xs) = c ∙ ap (step d) (part-is at e b xs ∙ ap (λ (k : ℕ). part_of k xs) a) in
-    let first-half : record { slots = set g.slots i (record { detector = s.detector }); batch = q; store = put_mid at (e - at) xs ys } ≡ round_with w first (stepped s ys) i (round g xs)
-    = λ t. record { slots = set g.slots i (record { detector = s.detector }); batch = bt t; store = st t } in
+    let first-half : record { slots = set g.slots i (record { detector = s.state }); batch = q; store = put_mid at (e - at) xs ys } ≡ round_with w first (stepped s ys) i (round g xs)
+    = λ t. record { slots = set g.slots i (record { detector = s.state }); batch = bt t; store = st t } in
     first-half ∙ ap (λ (z : Step). round_with w first z i (round g xs)) sp
 
 -- ---- the loop
@@ -82,9 +81,9 @@ module _ (step : Stepping) (w : CsiWindow) (first : ℕ) (slots : List Slot) (st
 
   with-step : (s : Step) (i : ℕ) (h : Heard) → round_with w first s i (as-round h) ≡ as-round (heard_with s i h)
   with-step s i h =
-      let b : pushed w first (pushed w first (batch_of (numbered w first h.said)) (told_of s.first)) (told_of s.second) ≡ batch_of (numbered w first (h.said ++ (heard s.first ++ heard s.second)))
-      = ap (λ (x : Batch). pushed w first x (told_of s.second)) (pushed_is w first h.said (told_of s.first)) ∙ pushed_is w first (h.said ++ heard s.first) (told_of s.second)
-      ∙ ap (λ (l : List Note). batch_of (numbered w first l)) (append_assoc h.said (heard s.first) (heard s.second)) in
+      let b : pushed w first (pushed w first (batch_of (numbered w first h.said)) s.first) s.second ≡ batch_of (numbered w first (h.said ++ (heard s.first ++ heard s.second)))
+      = ap (λ (x : Batch). pushed w first x s.second) (pushed_is w first h.said s.first) ∙ pushed_is w first (h.said ++ heard s.first) s.second
+      ∙ ap (λ (l : List Judgement). batch_of (numbered w first l)) (append_assoc h.said (heard s.first) (heard s.second)) in
       λ t. record { slots = set h.slots i (record { detector = s.detector }); batch = b t; store = with_part (place_of i) h.store s.baseline }
 
   pub hears : (n : ℕ) → judge_to step w first slots store n ≡ as-round (hear_to step slots store n)
@@ -123,10 +122,10 @@ unless_fine false k rest p e = absurd (omega arith)
 pub set_ready : (s : Detectors) → set_ok s ≡ true → (s.count ≤ places) × (all_to (in_at s.slots) s.count ≡ true)
 unfolding set_ok
 set_ready s e =
-    let a = and2 (leb s.count places) (all_to (in_at s.slots) s.count && all_to (fresh_at s.slots) s.count) e in
-    (leb-true _ _ a.0, (and2 (all_to (in_at s.slots) s.count) (all_to (fresh_at s.slots) s.count) a.1).0)
+    let a = and_parts (leb s.count places) (all_to (in_at s.slots) s.count && all_to (fresh_at s.slots) s.count) e in
+    (leb-true _ _ a.0, (and_parts (all_to (in_at s.slots) s.count) (all_to (fresh_at s.slots) s.count) a.1).0)
 
-pub all_ready : (ids : Ids) (s : Detectors) (n m : ℕ) (v : Reply) → paper v ≡ verdict_of ids s n m → v ≡ Done → AllReady s.slots s.count ids.event n m
+pub all_ready : (ids : Ids) (s : Detectors) (n m : ℕ) (v : Reply) → paper v ≡ verdict_of ids s n m → v ≡ Ok tt → AllReady s.slots s.count ids.event n m
 unfolding verdict_of
 all_ready ids s n m v e f =
     let e1 = unless_fine (leb room_of m) 13 _ (omega arith) (sym e ∙ ap paper f) in
@@ -137,7 +136,7 @@ all_ready ids s n m v e f =
     record { count = r.0; fine = r.1; numbers = leb-true _ _ e4.0; few = leb-true _ _ e3.0; room = leb-true _ _ e1.0 }
 
 -- a refusal has a number above 0
-refusal_some : (why : Refusal) → eqb (paper (Refused why)) 0 ≡ false
+refusal_some : (why : Refusal) → eqb (paper (Err why)) 0 ≡ false
 refusal_some StoreShort = refl
 refusal_some OutOfRange = refl
 refusal_some TooLong = refl
@@ -145,11 +144,11 @@ refusal_some NoNumber = refl
 
 -- ---- the whole
 module _ (ids : Ids) (s : Detectors) (w : CsiWindow) (means store : List Float) (v : Reply) (is-v : paper v ≡ verdict_of ids s (length means) (length store)) where
-  pub refused : (why : Refusal) (b : Batch) → v ≡ Refused why → b ≡ nothing → record { number = paper (Refused why); ids = ids; set = s; batch = b; store = store } ≡ judge_of ids s w means store
+  pub refused : (why : Refusal) (b : Batch) → v ≡ Err why → b ≡ nothing → record { number = paper (Err why); ids = ids; set = s; batch = b; store = store } ≡ judge_of ids s w means store
   unfolding judge_of
-  refused why b e h = rw (sym is-v ∙ ap paper e, refusal_some why) (λ t. record { number = paper (Refused why); ids = ids; set = s; batch = (h ∙ nothing_is) t; store = store })
+  refused why b e h = rw (sym is-v ∙ ap paper e, refusal_some why) (λ t. record { number = paper (Err why); ids = ids; set = s; batch = (h ∙ nothing_is) t; store = store })
 
-  pub judged : v ≡ Done → (g : Code.Round) (l : List Float) → round g l ≡ judge_to (step_of w means) w ids.event s.slots store s.count
+  pub judged : v ≡ Ok tt → (g : Code.Round) (l : List Float) → round g l ≡ judge_to (step_of w means) w ids.event s.slots store s.count
       → record { number = 0; ids = record { window = ids.window; event = ids.event + g.batch.count }; set = record { slots = g.slots; count = s.count }; batch = g.batch; store = l } ≡ judge_of ids s w means store
   unfolding judge_of
   judged e g l h = rw (sym is-v ∙ ap paper e)

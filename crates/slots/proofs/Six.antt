@@ -1,4 +1,5 @@
 -- A batch has room for all that different kinds say. Assumes nothing.
+use Rattle.std.specs.Prelude.{Option, Some, None}
 use mathlib.Core.Path.{◌≡◌, refl}
 use mathlib.Core.Bool.{Bool, true, false, not, ◌&&◌}
 use mathlib.Core.List.{List, [], ◌++◌}
@@ -8,9 +9,8 @@ use lib.Dec.{eqb, leb}
 use lib.ListN.{length, length-append}
 use lib.Ieee.{Float}
 use Rattle.lists.specs.All.{all_to}
-use Rattle.lists.proofs.Tests.{and2}
-use Rattle.slots.specs.declared.Told.{Told}
-use Rattle.slots.specs.declared.Told.TheVariants.{Nothing, Event}
+use Rattle.std.proofs.lemmas.Bool.{and_parts}
+use Rattle.detectors.specs.declared.Judgement.{Judgement}
 use Rattle.slots.specs.Limits.{places, most}
 use Rattle.slots.specs.declared.Detector.{Detector}
 use Rattle.slots.specs.declared.Detector.TheVariants.{Presence, Motion, Quality, Drift}
@@ -18,7 +18,7 @@ use Rattle.slots.specs.declared.Detectors.{Detectors}
 use Rattle.slots.specs.declared.Slot.{Slot}
 use Rattle.rvcsi_core.specs.declared.window.CsiWindow.{CsiWindow}
 use Rattle.slots.specs.Slots.{step_of, place_of, part_of, detector_at, kind_number, fresh_at, in_at, set_ok}
-use Rattle.slots.specs.Batches.{told_of, note_of, heard}
+use Rattle.slots.specs.Batches.{heard}
 use Rattle.slots.specs.Judging.{hear_to}
 
 -- what a kind may say
@@ -28,20 +28,20 @@ most_of (Motion c s) = 1
 most_of (Quality c s) = 2
 most_of (Drift c s) = 2
 
-one_note : (t : Told) → length (note_of t) ≤ 1
-one_note Nothing = omega arith
-one_note (Event k x) = omega arith
+one_note : (t : Option Judgement) → length (heard t) ≤ 1
+one_note None = omega arith
+one_note (Some j) = omega arith
 
 says : (d : Detector) (w : CsiWindow) (means l : List Float) → length (heard (step_of w means d l).first ++ heard (step_of w means d l).second) ≤ most_of d
 unfolding step_of
-says (Presence c s) w means l = omega (arith, length-append (heard (step_of w means (Presence c s) l).first) [], one_note (told_of (step_of w means (Presence c s) l).first))
-says (Motion c s) w means l = omega (arith, length-append (heard (step_of w means (Motion c s) l).first) [], one_note (told_of (step_of w means (Motion c s) l).first))
+says (Presence c s) w means l = omega (arith, length-append (heard (step_of w means (Presence c s) l).first) [], one_note (step_of w means (Presence c s) l).first)
+says (Motion c s) w means l = omega (arith, length-append (heard (step_of w means (Motion c s) l).first) [], one_note (step_of w means (Motion c s) l).first)
 says (Quality c s) w means l =
     let r = step_of w means (Quality c s) l in
-    omega (arith, length-append (heard r.first) (heard r.second), one_note (told_of r.first), one_note (told_of r.second))
+    omega (arith, length-append (heard r.first) (heard r.second), one_note r.first, one_note r.second)
 says (Drift c s) w means l =
     let r = step_of w means (Drift c s) l in
-    omega (arith, length-append (heard r.first) (heard r.second), one_note (told_of r.first), one_note (told_of r.second))
+    omega (arith, length-append (heard r.first) (heard r.second), one_note r.first, one_note r.second)
 
 -- no kind k among the first n
 abbrev free : List Slot → ℕ → ℕ → Bool
@@ -72,7 +72,7 @@ module _ (w : CsiWindow) (means : List Float) (slots : List Slot) (store : List 
   unfolding hear_to all_to
   within zero e = unfold room in lib.Dec.lit≤ tt
   within (suc n) e =
-      let a = and2 (all_to (fresh_at slots) n) (fresh_at slots n) e in
+      let a = and_parts (all_to (fresh_at slots) n) (fresh_at slots n) e in
       let h = hear_to (step_of w means) slots store n in
       let r = step_of w means (detector_at slots n) (part_of (place_of n) h.store) in
       omega (arith, within n a.0, uses slots n (detector_at slots n) refl a.1, says (detector_at slots n) w means (part_of (place_of n) h.store), length-append h.said (heard r.first ++ heard r.second))
@@ -81,6 +81,6 @@ module _ (w : CsiWindow) (means : List Float) (slots : List Slot) (store : List 
 pub six_at_most : (s : Detectors) (w : CsiWindow) (means store : List Float) → set_ok s ≡ true → length (hear_to (step_of w means) s.slots store s.count).said ≤ most
 unfolding set_ok
 six_at_most s w means store e =
-    let a = and2 (leb s.count places) (all_to (in_at s.slots) s.count && all_to (fresh_at s.slots) s.count) e in
-    let b = and2 (all_to (in_at s.slots) s.count) (all_to (fresh_at s.slots) s.count) a.1 in
+    let a = and_parts (leb s.count places) (all_to (in_at s.slots) s.count && all_to (fresh_at s.slots) s.count) e in
+    let b = and_parts (all_to (in_at s.slots) s.count) (all_to (fresh_at s.slots) s.count) a.1 in
     omega (arith, within w means s.slots store s.count b.1)

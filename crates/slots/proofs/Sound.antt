@@ -1,4 +1,5 @@
 -- Every event of a batch is valid. Assumes nothing.
+use Rattle.std.specs.Prelude.{Option, Some, None, Ok}
 use mathlib.Core.Path.{◌≡◌, sym, subst}
 use mathlib.Core.Bool.{true, ◌&&◌}
 use mathlib.Core.List.{List, [], ◌∷◌, ◌++◌}
@@ -7,16 +8,14 @@ use native.Mathlib.Omega.{arith}
 use lib.Dec.{T, ltb}
 use lib.Ieee.{Float, binary32, fits, of_bits, le}
 use lib.ListN.{length}
-use Rattle.lists.proofs.Tests.{and2}
+use Rattle.std.proofs.lemmas.Bool.{and_parts}
 use Rattle.rvcsi_core.specs.Score.{score_ok}
 use Rattle.rvcsi_core.specs.Event.{event_validity_of}
 use Rattle.rvcsi_core.specs.declared.window.CsiWindow.{CsiWindow}
 use Rattle.rvcsi_core.specs.declared.event.CsiEvent.{CsiEvent}
 use Rattle.rvcsi_core.specs.declared.ids.Ids.{Ids}
-use Rattle.rvcsi_core.specs.declared.event.EventValidity.TheVariants as passes
 use Rattle.rvcsi_core.proofs.Valid.{event_valid}
 use Rattle.detectors.specs.declared.Judgement.{Judgement}
-use Rattle.detectors.specs.declared.Judgement.TheVariants.{Quiet, PresenceStarted, PresenceEnded, MotionDetected, MotionSettled, BaselineChanged, SignalQualityDropped, AnomalyDetected, CalibrationRequired}
 use Rattle.detectors.specs.Answers.{said, Valid}
 use Rattle.detectors.specs.Motion.{motion_accepted, motion_in}
 use Rattle.detectors.proofs.Confidence.{presence_valid, motion_valid, quality_valid}
@@ -29,7 +28,7 @@ use Rattle.slots.specs.declared.Detector.TheVariants.{Presence, Motion, Quality,
 use Rattle.slots.specs.declared.Slot.{Slot}
 use Rattle.slots.specs.declared.Detectors.{Detectors}
 use Rattle.slots.specs.Slots.{detector_in, step_of, place_of, part_of, detector_at, in_at}
-use Rattle.slots.specs.Batches.{Note, heard, event_of, none, numbered, fill}
+use Rattle.slots.specs.Batches.{heard, event_of, none, numbered, fill}
 use Rattle.slots.specs.Judging.{hear_to, Outcome, judge_of}
 use Rattle.slots.proofs.Places.{its_own}
 use Rattle.slots.proofs.Owed.{Held, set_in, by-reply}
@@ -43,32 +42,25 @@ Single (Motion c s) = T (fits binary32 c.on_threshold)
 Single (Quality c s) = Unit
 Single (Drift c s) = Unit
 
-abbrev pub AllSound : List Note → Type 0
+abbrev pub AllSound : List Judgement → Type 0
 AllSound [] = Unit
 AllSound (t ∷ ts) = T (score_ok t.confidence) × AllSound ts
 
-heard_sound : (j : Judgement) → Valid (said j) → AllSound (heard j)
-heard_sound Quiet v = tt
-heard_sound (PresenceStarted x) v = (v, tt)
-heard_sound (PresenceEnded x) v = (v, tt)
-heard_sound (MotionDetected x) v = (v, tt)
-heard_sound (MotionSettled x) v = (v, tt)
-heard_sound (BaselineChanged x) v = (v, tt)
-heard_sound (SignalQualityDropped x) v = (v, tt)
-heard_sound (AnomalyDetected x) v = (v, tt)
-heard_sound (CalibrationRequired x) v = (v, tt)
+heard_sound : (j : Option Judgement) → Valid (said j) → AllSound (heard j)
+heard_sound None v = tt
+heard_sound (Some j) v = (v, tt)
 
-both_sound : (a b : List Note) → AllSound a → AllSound b → AllSound (a ++ b)
+both_sound : (a b : List Judgement) → AllSound a → AllSound b → AllSound (a ++ b)
 both_sound [] b p q = q
 both_sound (t ∷ a) b p q = (p.0, both_sound a b p.1 q)
 
 step_sound : (d : Detector) (w : CsiWindow) (means l : List Float) → Single d → detector_in d ≡ true → Valid (said (step_of w means d l).first) × Valid (said (step_of w means d l).second)
 unfolding step_of motion_in drift_in
 step_sound (Presence c s) w means l f h = (presence_valid c s w.presence_score, tt)
-step_sound (Motion c s) w means l f h = (motion_valid c (and2 (motion_accepted c) (ltb s.streak c.debounce_windows) h).0 f s w.motion_energy, tt)
+step_sound (Motion c s) w means l f h = (motion_valid c (and_parts (motion_accepted c) (ltb s.streak c.debounce_windows) h).0 f s w.motion_energy, tt)
 step_sound (Quality c s) w means l f h = quality_valid c s w.quality_score
 step_sound (Drift c s) w means l f h =
-    drift-valid c (and2 (drift_accepted c) (length_ok s.baseline) (and2 (drift_accepted c && length_ok s.baseline) (ltb s.drift_streak c.drift_windows) h).0).0 s means l
+    drift-valid c (and_parts (drift_accepted c) (length_ok s.baseline) (and_parts (drift_accepted c && length_ok s.baseline) (ltb s.drift_streak c.drift_windows) h).0).0 s means l
 
 -- a step leaves the settings
 pub step_single : (d : Detector) (w : CsiWindow) (means l : List Float) → Single d → Single (step_of w means d l).detector
@@ -93,14 +85,14 @@ module _ (w : CsiWindow) (means : List Float) (slots : List Slot) (store : List 
 -- ---- the batch
 abbrev pub AllValid : List CsiEvent → Type 0
 AllValid [] = Unit
-AllValid (e ∷ l) = (event_validity_of e ≡ passes.Valid) × AllValid l
+AllValid (e ∷ l) = (event_validity_of e ≡ Ok tt) × AllValid l
 
-pub numbered_valid : (w : CsiWindow) (n : ℕ) (ts : List Note) → AllSound ts → AllValid (numbered w n ts)
+pub numbered_valid : (w : CsiWindow) (n : ℕ) (ts : List Judgement) → AllSound ts → AllValid (numbered w n ts)
 unfolding numbered
 numbered_valid w n [] s = tt
 numbered_valid w n (t ∷ ts) s = (event_valid (event_of w n t) s.0, numbered_valid w (n + 1) ts s.1)
 
-none_valid : event_validity_of none ≡ passes.Valid
+none_valid : event_validity_of none ≡ Ok tt
 unfolding score_ok le of_bits
 none_valid = event_valid none tt
 

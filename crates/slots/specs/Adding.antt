@@ -1,5 +1,5 @@
 -- A detector is added behind the others.
-use Rattle.std.specs.Prelude.{Bool, true, false, ℕ, ◌+◌, ltb, set, replicate}
+use Rattle.std.specs.Prelude.{Bool, true, false, ℕ, ◌+◌, ltb, set, replicate, Result, Ok, Err}
 use Rattle.floats.specs.Clamp.{zero32}
 use Rattle.lists.specs.All.{all_to}
 use Rattle.detectors.specs.Presence.{presence_accepted, presence_fresh}
@@ -13,8 +13,8 @@ use Rattle.slots.specs.declared.Detector.{Detector}
 use Rattle.slots.specs.declared.Detector.TheVariants.{Presence, Motion, Quality, Drift}
 use Rattle.slots.specs.declared.Slot.{Slot}
 use Rattle.slots.specs.declared.Detectors.{Detectors}
-use Rattle.slots.specs.declared.Addition.{Addition}
-use Rattle.slots.specs.declared.Addition.TheVariants.{Added, OutOfRange, NotAccepted, KindThere}
+use Rattle.slots.specs.declared.AddRefusal.{AddRefusal}
+use Rattle.slots.specs.declared.AddRefusal.TheVariants.{OutOfRange, NotAccepted, KindThere}
 use Rattle.slots.specs.declared.Adding as Code
 use Rattle.slots.specs.Slots.{other_at, set_ok}
 
@@ -45,11 +45,11 @@ made_of (given.Quality c) = Quality c quality_fresh
 made_of (given.Drift c) = Drift c drift_fresh
 
 -- 01's number of a reply
-abbrev pub addition_number : Addition → ℕ
-addition_number Added = 0
-addition_number OutOfRange = 14
-addition_number NotAccepted = 1
-addition_number KindThere = 15
+abbrev pub addition_number : Result (Unit {0}) AddRefusal → ℕ
+addition_number (Ok u) = 0
+addition_number (Err OutOfRange) = 14
+addition_number (Err NotAccepted) = 1
+addition_number (Err KindThere) = 15
 
 -- the reply's number, and the set after it
 pub record Adding : Type 0 where
@@ -61,6 +61,11 @@ adding r = record { number = addition_number r.reply; set = r.set }
 
 abbrev pub left : ℕ → Detectors → Adding
 left n s = record { number = n; set = s }
+
+-- the set with the detector, or the set as it was with a refusal's number
+abbrev pub added_to : Detectors → Result Detectors AddRefusal → Adding
+added_to s (Ok t) = left 0 t
+added_to s (Err e) = left (addition_number (Err e)) s
 
 abbrev pub unless : Bool → Adding → Adding → Adding
 unless true v rest = rest

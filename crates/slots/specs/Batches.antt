@@ -1,44 +1,20 @@
 -- A batch of events, numbered in order.
-use Rattle.std.specs.Prelude.{cond, List, [], ◌∷◌, ℕ, zero, suc, ◌+◌, ◌≤◌, min, ltb, set, replicate, length, Float}
+use Rattle.std.specs.Prelude.{cond, List, [], ◌∷◌, ℕ, zero, suc, ◌+◌, ◌≤◌, min, ltb, set, replicate, length, Option, Some, None}
 use Rattle.floats.specs.Clamp.{zero32}
 use Rattle.rvcsi_core.specs.declared.window.CsiWindow.{CsiWindow}
 use Rattle.rvcsi_core.specs.declared.event.CsiEvent.{CsiEvent}
-use Rattle.rvcsi_core.specs.declared.event.CsiEventKind.{CsiEventKind}
 use Rattle.rvcsi_core.specs.declared.event.CsiEventKind.TheVariants as kind
 use Rattle.detectors.specs.declared.Judgement.{Judgement}
-use Rattle.detectors.specs.declared.Judgement.TheVariants.{Quiet, PresenceStarted, PresenceEnded, MotionDetected, MotionSettled, BaselineChanged, SignalQualityDropped, AnomalyDetected, CalibrationRequired}
 use Rattle.slots.specs.Limits.{most, last}
-use Rattle.slots.specs.declared.Told.{Told}
-use Rattle.slots.specs.declared.Told.TheVariants.{Nothing, Event}
 use Rattle.slots.specs.declared.Batch.{Batch}
 
--- "a judgement is quiet or an event carrying its confidence": the event's kind
-abbrev pub told_of : Judgement → Told
-told_of Quiet = Nothing
-told_of (PresenceStarted x) = Event kind.PresenceStarted x
-told_of (PresenceEnded x) = Event kind.PresenceEnded x
-told_of (MotionDetected x) = Event kind.MotionDetected x
-told_of (MotionSettled x) = Event kind.MotionSettled x
-told_of (BaselineChanged x) = Event kind.BaselineChanged x
-told_of (SignalQualityDropped x) = Event kind.SignalQualityDropped x
-told_of (AnomalyDetected x) = Event kind.AnomalyDetected x
-told_of (CalibrationRequired x) = Event kind.CalibrationRequired x
-
--- a kind with its confidence
-pub record Note : Type 0 where
-  pub kind : CsiEventKind
-  pub confidence : Float
-
-abbrev pub note_of : Told → List Note
-note_of Nothing = []
-note_of (Event k x) = record { kind = k; confidence = x } ∷ []
-
--- what a judgement says, if anything
-abbrev pub heard : Judgement → List Note
-heard j = note_of (told_of j)
+-- what a judgement says, if anything: "a judgement is quiet or an event carrying its confidence"
+abbrev pub heard : Option Judgement → List Judgement
+heard None = []
+heard (Some j) = j ∷ []
 
 -- "Event time is the window's end, evidence its number"
-abbrev pub event_of : CsiWindow → ℕ → Note → CsiEvent
+abbrev pub event_of : CsiWindow → ℕ → Judgement → CsiEvent
 event_of w n t =
     record {
       event_id = n;
@@ -51,7 +27,7 @@ event_of w n t =
     }
 
 -- events numbered from n
-unfoldable pub numbered : CsiWindow → ℕ → List Note → List CsiEvent
+unfoldable pub numbered : CsiWindow → ℕ → List Judgement → List CsiEvent
 numbered w n [] = []
 numbered w n (t ∷ ts) = event_of w n t ∷ numbered w (n + 1) ts
 
@@ -87,14 +63,14 @@ pub record Numbers (first : ℕ) : Type 0 where
 abbrev pub nothing : Batch
 nothing = record { events = replicate most none; count = 0 }
 
-abbrev pub added : CsiWindow → ℕ → Batch → Note → Batch
+abbrev pub added : CsiWindow → ℕ → Batch → Judgement → Batch
 added w n b t =
     cond (ltb b.count most)
     (record { events = set b.events b.count (event_of w (n + b.count) t); count = b.count + 1 }) b
 
-abbrev pub joined : CsiWindow → ℕ → Batch → List Note → Batch
+abbrev pub joined : CsiWindow → ℕ → Batch → List Judgement → Batch
 joined w n b [] = b
 joined w n b (t ∷ ts) = joined w n (added w n b t) ts
 
-unfoldable pub pushed : CsiWindow → ℕ → Batch → Told → Batch
-pushed w n b t = joined w n b (note_of t)
+unfoldable pub pushed : CsiWindow → ℕ → Batch → Option Judgement → Batch
+pushed w n b t = joined w n b (heard t)

@@ -1,27 +1,27 @@
 -- A window judged by the whole set.
-use Rattle.std.specs.Prelude.{◌≡◌, Bool, true, false, cond, List, [], ◌++◌, ℕ, zero, suc, ◌+◌, ◌≤◌, leb, eqb, set, length, Float}
+use Rattle.std.specs.Prelude.{◌≡◌, Bool, true, false, cond, List, [], ◌++◌, ℕ, zero, suc, ◌+◌, ◌≤◌, leb, eqb, set, length, Float, Result, Ok, Err}
 use Rattle.lists.specs.All.{all_to}
 use Rattle.rvcsi_core.specs.declared.window.CsiWindow.{CsiWindow}
 use Rattle.rvcsi_core.specs.declared.ids.Ids.{Ids}
 use Rattle.slots.specs.Limits.{places, part, room_of, last}
+use Rattle.detectors.specs.declared.Judgement.{Judgement}
 use Rattle.slots.specs.declared.Detector.{Detector}
 use Rattle.slots.specs.declared.Detectors.{Detectors}
 use Rattle.slots.specs.declared.Slot.{Slot}
 use Rattle.slots.specs.declared.Batch.{Batch}
 use Rattle.slots.specs.declared.Round as Code
+use Rattle.slots.specs.declared.Refusal.{Refusal}
 use Rattle.slots.specs.declared.Refusal.TheVariants.{StoreShort, OutOfRange, TooLong, NoNumber}
-use Rattle.slots.specs.declared.Reply.{Reply}
-use Rattle.slots.specs.declared.Reply.TheVariants.{Done, Refused}
 use Rattle.slots.specs.declared.Judged.{Judged}
 use Rattle.slots.specs.Slots.{Step, step_of, place_of, part_of, with_part, detector_at, in_at, set_ok}
-use Rattle.slots.specs.Batches.{Note, told_of, heard, numbered, batch_of, nothing, pushed}
+use Rattle.slots.specs.Batches.{heard, numbered, batch_of, nothing, pushed}
 
 -- ---- the rule: slot after slot
 
 -- what a window has changed so far: the slots, what was said in order, the baselines' store
 pub record Heard : Type 0 where
   pub slots : List Slot
-  pub said : List Note
+  pub said : List Judgement
   pub store : List Float
 
 -- slot i after its detector's step, on the part of the store that is its own
@@ -45,13 +45,17 @@ hear_to step slots store (suc i) =
 
 -- ---- the reply
 
+-- reply 0, or a refusal
+abbrev pub Reply : Type 0
+Reply = Result (Unit {0}) Refusal
+
 -- 01's number of a reply
 abbrev pub paper : Reply → ℕ
-paper Done = 0
-paper (Refused StoreShort) = 13
-paper (Refused OutOfRange) = 14
-paper (Refused TooLong) = 5
-paper (Refused NoNumber) = 8
+paper (Ok u) = 0
+paper (Err StoreShort) = 13
+paper (Err OutOfRange) = 14
+paper (Err TooLong) = 5
+paper (Err NoNumber) = 8
 
 abbrev pub unless : Bool → ℕ → ℕ → ℕ
 unless true n rest = rest
@@ -108,7 +112,7 @@ abbrev pub round_with : CsiWindow → ℕ → Step → ℕ → Round → Round
 round_with w first s i r =
     record {
       slots = set r.slots i (record { detector = s.detector });
-      batch = pushed w first (pushed w first r.batch (told_of s.first)) (told_of s.second);
+      batch = pushed w first (pushed w first r.batch s.first) s.second;
       store = with_part (place_of i) r.store s.baseline;
     }
 

@@ -1,16 +1,16 @@
 -- Detectors in slots, in order of adding.
-use Rattle.std.specs.Prelude.{◌≡◌, Bool, true, false, not, ◌&&◌, List, ◌++◌, ℕ, ◌≤◌, ◌+◌, min, leb, eqb, get_or, take, drop, replicate, Float}
+use Rattle.std.specs.Prelude.{◌≡◌, Bool, true, false, not, ◌&&◌, List, ◌++◌, ℕ, ◌≤◌, ◌+◌, min, leb, eqb, get_or, take, drop, replicate, Float, Option, None}
 use Rattle.std.specs.Float.{nan}
 use Rattle.lists.specs.All.{all_to}
 use Rattle.lists.specs.Tab.{tab}
 use Rattle.rvcsi_core.specs.declared.window.CsiWindow.{CsiWindow}
 use Rattle.detectors.specs.declared.Judgement.{Judgement}
-use Rattle.detectors.specs.declared.Judgement.TheVariants.{Quiet}
-use Rattle.detectors.specs.declared.presence.PresenceMoved.{PresenceMoved}
+use Rattle.detectors.specs.declared.Moved.{Moved}
+use Rattle.detectors.specs.declared.presence.PresenceState.{PresenceState}
 use Rattle.detectors.specs.declared.presence.PresenceConfig.{PresenceConfig}
-use Rattle.detectors.specs.declared.motion.MotionMoved.{MotionMoved}
+use Rattle.detectors.specs.declared.motion.MotionState.{MotionState}
 use Rattle.detectors.specs.declared.motion.MotionConfig.{MotionConfig}
-use Rattle.detectors.specs.declared.quality.QualityMoved.{QualityMoved}
+use Rattle.detectors.specs.declared.quality.QualityState.{QualityState}
 use Rattle.detectors.specs.declared.quality.QualityConfig.{QualityConfig}
 use Rattle.drift.specs.declared.BaselineDriftConfig.{BaselineDriftConfig}
 use Rattle.detectors.specs.Presence.{presence_in, presence_move}
@@ -20,10 +20,11 @@ use Rattle.drift.specs.Drift.{drift_in, drift_move, Drifted}
 use Rattle.slots.specs.Limits.{places, part}
 use Rattle.slots.specs.declared.Detector.{Detector}
 use Rattle.slots.specs.declared.Detector.TheVariants.{Presence, Motion, Quality, Drift}
+use Rattle.slots.specs.declared.DetectorKind.{DetectorKind}
+use Rattle.slots.specs.declared.DetectorKind.TheVariants as kinds
 use Rattle.slots.specs.declared.Slot.{Slot}
 use Rattle.slots.specs.declared.Detectors.{Detectors}
 use Rattle.slots.specs.declared.Kinds.{Kinds}
-use Rattle.slots.specs.declared.Stepped.{Stepped}
 
 -- ---- one detector
 
@@ -33,6 +34,13 @@ detector_in (Presence c s) = presence_in c s
 detector_in (Motion c s) = motion_in c s
 detector_in (Quality c s) = quality_in c s
 detector_in (Drift c s) = drift_in c s
+
+-- a detector's kind
+abbrev pub kind_of : Detector → DetectorKind
+kind_of (Presence c s) = kinds.Presence
+kind_of (Motion c s) = kinds.Motion
+kind_of (Quality c s) = kinds.Quality
+kind_of (Drift c s) = kinds.Drift
 
 -- "a kind number and four state records"
 abbrev pub kind_number : Detector → ℕ
@@ -44,20 +52,20 @@ kind_number (Drift c s) = 3
 -- a detector after a window: itself, what it says in order, and its baseline's list
 pub record Step : Type 0 where
   pub detector : Detector
-  pub first : Judgement
-  pub second : Judgement
+  pub first : Option Judgement
+  pub second : Option Judgement
   pub baseline : List Float
 
-abbrev pub stepped : Stepped → List Float → Step
-stepped r l = record { detector = r.detector; first = r.first; second = r.second; baseline = l }
+abbrev pub stepped : Moved Detector → List Float → Step
+stepped r l = record { detector = r.state; first = r.first; second = r.second; baseline = l }
 
-abbrev pub by_presence : PresenceConfig → PresenceMoved → List Float → Step
-by_presence c m l = record { detector = Presence c m.state; first = m.said; second = Quiet; baseline = l }
+abbrev pub by_presence : PresenceConfig → Moved PresenceState → List Float → Step
+by_presence c m l = record { detector = Presence c m.state; first = m.first; second = None; baseline = l }
 
-abbrev pub by_motion : MotionConfig → MotionMoved → List Float → Step
-by_motion c m l = record { detector = Motion c m.state; first = m.said; second = Quiet; baseline = l }
+abbrev pub by_motion : MotionConfig → Moved MotionState → List Float → Step
+by_motion c m l = record { detector = Motion c m.state; first = m.first; second = None; baseline = l }
 
-abbrev pub by_quality : QualityConfig → QualityMoved → List Float → Step
+abbrev pub by_quality : QualityConfig → Moved QualityState → List Float → Step
 by_quality c m l = record { detector = Quality c m.state; first = m.first; second = m.second; baseline = l }
 
 abbrev pub by_drift : BaselineDriftConfig → Drifted → Step

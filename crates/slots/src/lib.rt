@@ -1,20 +1,20 @@
 // Detectors in slots, in order of adding, and the batch of events that they say of a window.
 #![tactic(auto)]
 
-ghost use Rattle.std.specs.Prelude.{◌≡◌, not, ◌<◌, ◌≤◌, ◌+◌, length, eqb};
+ghost use Rattle.std.specs.Prelude.{◌≡◌, not, ◌<◌, ◌≤◌, ◌+◌, length, eqb, Err};
 ghost use Rattle.lists.specs.All.{all_to};
 ghost use Rattle.slots.specs.Limits.{places, part};
 ghost use Rattle.drift.specs.Drift.{drift_move};
-ghost use Rattle.slots.specs.Slots.{detector_in, kind_number, detector_at, in_at, other_at, fresh_at, set_ok, kinds_of, Ready, stepped, by_drift, step_of, place_of};
-ghost use Rattle.slots.specs.Adding.{no_detectors, config_accepted, made_of, adding, add_of, put_of};
-ghost use Rattle.slots.specs.Batches.{told_of, nothing, pushed, Numbers};
+ghost use Rattle.slots.specs.Slots.{detector_in, kind_of, kind_number, detector_at, in_at, other_at, fresh_at, set_ok, kinds_of, Ready, stepped, by_drift, step_of, place_of};
+ghost use Rattle.slots.specs.Adding.{no_detectors, config_accepted, made_of, addition_number, adding, added_to, add_of, put_of};
+ghost use Rattle.slots.specs.Batches.{nothing, pushed, Numbers};
 ghost use Rattle.slots.specs.Judging.{round, one_of, judge_to, AllReady, paper, verdict_of, outcome, judge_of};
 
-use detectors::Judgement;
 use detectors::motion::{MotionConfig, MotionState};
 use detectors::presence::{PresenceConfig, PresenceState};
 use detectors::quality::{QualityConfig, QualityState};
-use drift::{BaselineDriftConfig, DriftReply, DriftState};
+use detectors::{Judgement, Moved, Scored, Settings};
+use drift::{BaselineDriftConfig, DriftState};
 use rvcsi_core::event::{CsiEvent, CsiEventKind};
 use rvcsi_core::ids::Ids;
 use rvcsi_core::window::CsiWindow;
@@ -41,12 +41,13 @@ pub enum Detector {
     Drift(BaselineDriftConfig, DriftState),
 }
 
+// One place of a set. The definitions and laws of a set, also those of `pipeline_laws` and `worked`, speak of its slots.
 #[derive(Clone, Copy)]
 pub struct Slot {
     pub detector: Detector,
 }
 
-// The detectors in order of adding: the first `count` slots.
+// The detectors in order of adding: the first `count` slots. There is no heap, and a count above PLACES is answered (14), so it stands beside the array.
 #[derive(Clone, Copy)]
 pub struct Detectors {
     pub slots: [Slot; PLACES],
@@ -60,70 +61,70 @@ pub fn detector_in(d: Detector) -> bool
     ensures { result ≡ detector_in d }
 {
     match d {
-        Detector::Presence(c, s) => detectors::presence::in_range(c, s),
-        Detector::Motion(c, s) => detectors::motion::in_range(c, s),
-        Detector::Quality(c, s) => detectors::quality::in_range(c, s),
-        Detector::Drift(c, s) => drift::in_range(c, s),
+        Detector::Presence(c, s) => c.in_range(s),
+        Detector::Motion(c, s) => c.in_range(s),
+        Detector::Quality(c, s) => c.in_range(s),
+        Detector::Drift(c, s) => c.in_range(s),
     }
 }
 
+// The kinds, in the order of their numbers.
+#[derive(Clone, Copy, PartialEq, Eq)]
+pub enum DetectorKind {
+    Presence,
+    Motion,
+    Quality,
+    Drift,
+}
+
+fn kind(d: Detector) -> DetectorKind
+    ensures { result ≡ kind_of d }
+{
+    match d {
+        Detector::Presence(_, _) => DetectorKind::Presence,
+        Detector::Motion(_, _) => DetectorKind::Motion,
+        Detector::Quality(_, _) => DetectorKind::Quality,
+        Detector::Drift(_, _) => DetectorKind::Drift,
+    }
+}
+
+// The scope document's kind number: promises and the manual speak of it, and within this crate kinds are an enum.
 pub fn kind_number(d: Detector) -> u8
     ensures { result ≡ kind_number d }
 {
-    match d {
-        Detector::Presence(_, _) => 0,
-        Detector::Motion(_, _) => 1,
-        Detector::Quality(_, _) => 2,
-        Detector::Drift(_, _) => 3,
-    }
-}
-
-// A detector after a window, and what it says, in this order.
-#[derive(Clone, Copy)]
-pub struct Stepped {
-    pub detector: Detector,
-    pub first: Judgement,
-    pub second: Judgement,
+    kind(d) as u8
 }
 
 // One window. The baseline, a drift detector's, stands in the lent list from place 0.
-fn step(d: Detector, w: CsiWindow, mean_amplitude: &[f32], baseline: &mut [f32]) -> Stepped
+fn step(d: Detector, w: CsiWindow, mean_amplitude: &[f32], baseline: &mut [f32]) -> Moved<Detector>
     requires { Ready d (length mean_amplitude.now) (length baseline.old) }
     ensures { stepped result baseline.new ≡ step_of w mean_amplitude.now d baseline.old }
 {
     match d {
         Detector::Presence(c, s) => {
-            let m = detectors::presence::moved(c, s, w.presence_score);
-            let t = m.state;
-            let first = m.said;
-            Stepped {
-                detector: Detector::Presence(c, t),
-                first,
-                second: Judgement::Quiet,
-            }
+            let m = c.moved(s, w.presence_score);
+            with_state(Detector::Presence(c, m.state), m)
         }
         Detector::Motion(c, s) => {
-            let m = detectors::motion::moved(c, s, w.motion_energy);
-            let t = m.state;
-            let first = m.said;
-            Stepped {
-                detector: Detector::Motion(c, t),
-                first,
-                second: Judgement::Quiet,
-            }
+            let m = c.moved(s, w.motion_energy);
+            with_state(Detector::Motion(c, m.state), m)
         }
         Detector::Quality(c, s) => {
-            let m = detectors::quality::moved(c, s, w.quality_score);
-            let t = m.state;
-            let first = m.first;
-            let second = m.second;
-            Stepped {
-                detector: Detector::Quality(c, t),
-                first,
-                second,
-            }
+            let m = c.moved(s, w.quality_score);
+            with_state(Detector::Quality(c, m.state), m)
         }
         Detector::Drift(c, s) => step_drift(c, s, mean_amplitude, baseline),
+    }
+}
+
+// What a detector says, beside the whole detector.
+fn with_state<S: Copy>(detector: Detector, m: Moved<S>) -> Moved<Detector>
+    ensures { result ≡ record { state = detector; first = m.first; second = m.second } }
+{
+    Moved {
+        state: detector,
+        first: m.first,
+        second: m.second,
     }
 }
 
@@ -133,23 +134,18 @@ fn step_drift(
     s: DriftState,
     mean_amplitude: &[f32],
     baseline: &mut [f32],
-) -> Stepped
+) -> Moved<Detector>
     requires { Ready (Detector.Drift c s) (length mean_amplitude.now) (length baseline.old) }
     ensures { stepped result baseline.new ≡ by_drift c (drift_move c s mean_amplitude.now baseline.old) }
 {
-    let DriftReply::Judged(t, first, second) = drift::on_window(c, s, mean_amplitude, baseline)
-    else {
-        return Stepped {
-            detector: Detector::Drift(c, s),
-            first: Judgement::Quiet,
-            second: Judgement::Quiet,
+    let Ok(m) = drift::on_window(c, s, mean_amplitude, baseline) else {
+        return Moved {
+            state: Detector::Drift(c, s),
+            first: None,
+            second: None,
         };
     };
-    Stepped {
-        detector: Detector::Drift(c, t),
-        first,
-        second,
-    }
+    with_state(Detector::Drift(c, m.state), m)
 }
 
 // ---- the set
@@ -169,61 +165,49 @@ fn detector_at(slots: [Slot; PLACES], i: usize) -> Detector
     slot.detector
 }
 
-// The first n are in range.
-fn all_in(slots: [Slot; PLACES], n: usize) -> bool
-    requires { n ≤ places }
-    ensures { result ≡ all_to (in_at slots) n }
+// Each is in range.
+fn all_in(slots: &[Slot]) -> bool
+    ensures { result ≡ all_to (in_at slots.now) (length slots.now) }
 {
-    let mut ok = true;
-    for i in 0..n {
-        ok = lists::both(ok, detector_in(detector_at(slots, i)));
-    }
-    ok
+    slots.iter().all(|slot| detector_in(slot.detector))
 }
 
 fn other(a: Detector, b: Detector) -> bool
     ensures { result ≡ not (eqb (kind_number a) (kind_number b)) }
 {
-    kind_number(a) != kind_number(b)
+    kind(a) != kind(b)
 }
 
-// None of the first n is of the kind of d.
-fn fresh(slots: [Slot; PLACES], n: usize, d: Detector) -> bool
-    requires { n ≤ places }
-    ensures { result ≡ all_to (other_at slots d) n }
+// None is of the kind of d.
+fn fresh(slots: &[Slot], d: Detector) -> bool
+    ensures { result ≡ all_to (other_at slots.now d) (length slots.now) }
 {
-    let mut ok = true;
-    for i in 0..n {
-        ok = lists::both(ok, other(detector_at(slots, i), d));
-    }
-    ok
+    slots.iter().all(|slot| other(slot.detector, d))
 }
 
-// No kind twice among the first n.
-fn all_fresh(slots: [Slot; PLACES], n: usize) -> bool
-    requires { n ≤ places }
-    ensures { result ≡ all_to (fresh_at slots) n }
+// No kind twice.
+fn all_fresh(slots: &[Slot]) -> bool
+    ensures { result ≡ all_to (fresh_at slots.now) (length slots.now) }
 {
-    let mut ok = true;
-    for i in 0..n {
-        ok = lists::both(ok, fresh(slots, i, detector_at(slots, i)));
+    for (i, slot) in slots.iter().enumerate() {
+        if !fresh(&slots[..i], slot.detector) {
+            return false;
+        }
     }
-    ok
+    true
 }
 
 // Is each detector in range, and no kind there twice?
 pub fn set_ok(set: Detectors) -> bool
     ensures { result ≡ set_ok set }
 {
-    let n = set.count;
-    let slots = set.slots;
-    if PLACES < n {
+    let Some(there) = set.slots.get(..set.count) else {
         return false;
-    }
-    lists::both(all_in(slots, n), all_fresh(slots, n))
+    };
+    all_in(there) && all_fresh(there)
 }
 
-// The kinds in order of adding: the first `count` places.
+// The kinds in order of adding: the first `count` places, by value.
 #[derive(Clone, Copy)]
 pub struct Kinds {
     pub numbers: [u8; PLACES],
@@ -233,9 +217,10 @@ pub struct Kinds {
 pub fn detector_kinds(set: Detectors) -> Kinds
     ensures { result ≡ kinds_of set }
 {
-    let n = lists::shorter(set.count, PLACES);
+    let n = set.count.min(PLACES);
     let slots = set.slots;
     let mut numbers = [0u8; PLACES];
+    // i is the place in both arrays.
     for i in 0..n {
         numbers[i] = kind_number(detector_at(slots, i));
     }
@@ -257,10 +242,10 @@ fn config_accepted(c: DetectorConfig) -> bool
     ensures { result ≡ config_accepted c }
 {
     match c {
-        DetectorConfig::Presence(p) => detectors::presence::accepted(p),
-        DetectorConfig::Motion(m) => detectors::motion::accepted(m),
-        DetectorConfig::Quality(q) => detectors::quality::accepted(q),
-        DetectorConfig::Drift(d) => drift::accepted(d),
+        DetectorConfig::Presence(p) => p.accepted(),
+        DetectorConfig::Motion(m) => m.accepted(),
+        DetectorConfig::Quality(q) => q.accepted(),
+        DetectorConfig::Drift(d) => d.accepted(),
     }
 }
 
@@ -269,39 +254,14 @@ fn made(c: DetectorConfig) -> Detector
     ensures { result ≡ made_of c }
 {
     match c {
-        DetectorConfig::Presence(p) => Detector::Presence(
-            p,
-            PresenceState {
-                present: false,
-                streak: 0,
-            },
-        ),
-        DetectorConfig::Motion(m) => Detector::Motion(
-            m,
-            MotionState {
-                moving: false,
-                streak: 0,
-            },
-        ),
-        DetectorConfig::Quality(q) => Detector::Quality(
-            q,
-            QualityState {
-                low_streak: 0,
-                dropped_emitted: false,
-                calib_emitted: false,
-            },
-        ),
-        DetectorConfig::Drift(d) => Detector::Drift(
-            d,
-            DriftState {
-                baseline: drift::Baseline::Unset,
-                drift_streak: 0,
-            },
-        ),
+        DetectorConfig::Presence(p) => Detector::Presence(p, PresenceConfig::fresh()),
+        DetectorConfig::Motion(m) => Detector::Motion(m, MotionConfig::fresh()),
+        DetectorConfig::Quality(q) => Detector::Quality(q, QualityConfig::fresh()),
+        DetectorConfig::Drift(d) => Detector::Drift(d, BaselineDriftConfig::fresh()),
     }
 }
 
-// A set with no detector.
+// A set with no detector. No `Default`: what the slots hold beside a count of 0 says nothing, here and in an empty batch.
 pub fn no_detectors() -> Detectors
     ensures { result ≡ no_detectors }
 {
@@ -311,12 +271,8 @@ pub fn no_detectors() -> Detectors
         enter_windows: 0,
         exit_windows: 0,
     };
-    let s = PresenceState {
-        present: false,
-        streak: 0,
-    };
     let slot = Slot {
-        detector: Detector::Presence(c, s),
+        detector: Detector::Presence(c, PresenceConfig::fresh()),
     };
     Detectors {
         slots: [slot; PLACES],
@@ -324,18 +280,31 @@ pub fn no_detectors() -> Detectors
     }
 }
 
-// Reply 0, 14, 1 or 15.
-#[derive(Clone, Copy)]
-pub enum Addition {
-    Added,
+// Why a detector is not added.
+#[derive(Clone, Copy, Debug, PartialEq, Eq)]
+pub enum AddRefusal {
     OutOfRange,
     NotAccepted,
     KindThere,
 }
 
+impl AddRefusal {
+    // 01's number of the refusal.
+    pub fn number(self) -> u64
+        ensures { result ≡ addition_number (Err self) }
+    {
+        match self {
+            AddRefusal::OutOfRange => 14,
+            AddRefusal::NotAccepted => 1,
+            AddRefusal::KindThere => 15,
+        }
+    }
+}
+
+// The set stands beside the reply, since a refusal gives it back too.
 #[derive(Clone, Copy)]
 pub struct Adding {
-    pub reply: Addition,
+    pub reply: Result<(), AddRefusal>,
     pub set: Detectors,
 }
 
@@ -343,75 +312,52 @@ pub struct Adding {
 pub fn add(set: Detectors, c: DetectorConfig) -> Adding
     ensures { adding result ≡ add_of set c }
 {
-    if !set_ok(set) {
-        return Adding {
-            reply: Addition::OutOfRange,
+    match try_add(set, c) {
+        Ok(more) => Adding {
+            reply: Ok(()),
+            set: more,
+        },
+        Err(why) => Adding {
+            reply: Err(why),
             set,
-        };
+        },
+    }
+}
+
+// The set with the detector, or why it is not added.
+fn try_add(set: Detectors, c: DetectorConfig) -> Result<Detectors, AddRefusal>
+    ensures { added_to set result ≡ add_of set c }
+{
+    if !set_ok(set) {
+        return Err(AddRefusal::OutOfRange);
     }
     if !config_accepted(c) {
-        return Adding {
-            reply: Addition::NotAccepted,
-            set,
-        };
+        return Err(AddRefusal::NotAccepted);
     }
     put(set, made(c))
 }
 
 // A detector in the next place, if its kind is new and there is a place.
-fn put(set: Detectors, d: Detector) -> Adding
+fn put(set: Detectors, d: Detector) -> Result<Detectors, AddRefusal>
     requires { set.count ≤ places }
-    ensures { adding result ≡ put_of set d }
+    ensures { added_to set result ≡ put_of set d }
 {
     let n = set.count;
-    let slots = set.slots;
-    if !fresh(slots, n, d) {
-        return Adding {
-            reply: Addition::KindThere,
-            set,
-        };
+    if !fresh(&set.slots[..n], d) {
+        return Err(AddRefusal::KindThere);
     }
-    if n < PLACES {
-        let mut out = set;
-        out.slots[n] = Slot { detector: d };
-        out.count = n + 1;
-        return Adding {
-            reply: Addition::Added,
-            set: out,
-        };
+    if PLACES <= n {
+        return Err(AddRefusal::KindThere);
     }
-    Adding {
-        reply: Addition::KindThere,
-        set,
-    }
+    let mut out = set;
+    out.slots[n] = Slot { detector: d };
+    out.count = n + 1;
+    Ok(out)
 }
 
 // ---- the batch
 
-// What a judgement tells: nothing, or an event's kind and confidence.
-#[derive(Clone, Copy)]
-pub enum Told {
-    Nothing,
-    Event(CsiEventKind, f32),
-}
-
-fn tell(j: Judgement) -> Told
-    ensures { result ≡ told_of j }
-{
-    match j {
-        Judgement::Quiet => Told::Nothing,
-        Judgement::PresenceStarted(x) => Told::Event(CsiEventKind::PresenceStarted, x),
-        Judgement::PresenceEnded(x) => Told::Event(CsiEventKind::PresenceEnded, x),
-        Judgement::MotionDetected(x) => Told::Event(CsiEventKind::MotionDetected, x),
-        Judgement::MotionSettled(x) => Told::Event(CsiEventKind::MotionSettled, x),
-        Judgement::BaselineChanged(x) => Told::Event(CsiEventKind::BaselineChanged, x),
-        Judgement::SignalQualityDropped(x) => Told::Event(CsiEventKind::SignalQualityDropped, x),
-        Judgement::AnomalyDetected(x) => Told::Event(CsiEventKind::AnomalyDetected, x),
-        Judgement::CalibrationRequired(x) => Told::Event(CsiEventKind::CalibrationRequired, x),
-    }
-}
-
-// The events of one window, in order: the first `count` places.
+// The events of one window, in order: the first `count` places, by value.
 #[derive(Clone, Copy)]
 pub struct Batch {
     pub events: [CsiEvent; MOST],
@@ -437,12 +383,12 @@ pub fn empty() -> Batch
     }
 }
 
-// What is told joins the batch, with the next number.
-fn push(b: Batch, t: Told, w: CsiWindow, first: u64) -> Batch
+// What is said joins the batch, with the next number: a window's own numbers do not say which event is next, so `first` stands beside it.
+fn push(b: Batch, said: Option<Judgement>, w: CsiWindow, first: u64) -> Batch
     requires { Numbers first }
-    ensures { result ≡ pushed w first b t }
+    ensures { result ≡ pushed w first b said }
 {
-    let Told::Event(kind, confidence) = t else {
+    let Some(j) = said else {
         return b;
     };
     let at = b.count;
@@ -451,11 +397,11 @@ fn push(b: Batch, t: Told, w: CsiWindow, first: u64) -> Batch
         let event_id = first + at as u64;
         out.events[at] = CsiEvent {
             event_id,
-            kind,
+            kind: j.kind,
             session_id: w.session_id,
             source_id: w.source_id,
             timestamp_ns: w.end_ns,
-            confidence,
+            confidence: j.confidence,
             window_id: w.window_id,
         };
         out.count = at + 1;
@@ -488,18 +434,14 @@ fn judge_one(
     let at = place_of(i);
     let end = at + PART;
     let s = step(d, w, mean_amplitude, &mut baseline_store[at..end]);
-    let e = s.detector;
-    let a = s.first;
-    let b = s.second;
-    let old = g.batch;
-    let batch = push(push(old, tell(a), w, first), tell(b), w, first);
+    let batch = push(push(g.batch, s.first, w, first), s.second, w, first);
     let mut out = g;
-    out.slots[i] = Slot { detector: e };
+    out.slots[i] = Slot { detector: s.state };
     out.batch = batch;
     out
 }
 
-// The first n slots, in order.
+// The first n slots, in order. It takes all slots and n, since the round gives the whole array back; i is the slot that is written.
 fn judge_all(
     slots: [Slot; PLACES],
     n: usize,
@@ -521,7 +463,7 @@ fn judge_all(
 }
 
 // Reply 13, 14, 5 or 8.
-#[derive(Clone, Copy)]
+#[derive(Clone, Copy, Debug, PartialEq, Eq)]
 pub enum Refusal {
     StoreShort,
     OutOfRange,
@@ -529,38 +471,32 @@ pub enum Refusal {
     NoNumber,
 }
 
-// Reply 0, or a refusal.
-#[derive(Clone, Copy)]
-pub enum Reply {
-    Done,
-    Refused(Refusal),
-}
-
+// Counters and set stand beside the reply, since a refusal gives them back too.
 #[derive(Clone, Copy)]
 pub struct Judged {
-    pub reply: Reply,
+    pub reply: Result<(), Refusal>,
     pub ids: Ids,
     pub set: Detectors,
     pub batch: Batch,
 }
 
 // Is a window with a list of n refused, where `room` places are lent for the baseline?
-fn judge_verdict(ids: Ids, set: Detectors, n: usize, room: usize) -> Reply
+fn judge_verdict(ids: Ids, set: Detectors, n: usize, room: usize) -> Result<(), Refusal>
     ensures { paper result ≡ verdict_of ids set n room }
 {
     if room < ROOM {
-        return Reply::Refused(Refusal::StoreShort);
+        return Err(Refusal::StoreShort);
     }
     if !set_ok(set) {
-        return Reply::Refused(Refusal::OutOfRange);
+        return Err(Refusal::OutOfRange);
     }
     if PART < n {
-        return Reply::Refused(Refusal::TooLong);
+        return Err(Refusal::TooLong);
     }
     if LAST < ids.event {
-        return Reply::Refused(Refusal::NoNumber);
+        return Err(Refusal::NoNumber);
     }
-    Reply::Done
+    Ok(())
 }
 
 // Every detector judges the window, in order of adding. Its events are numbered from the event counter.
@@ -574,16 +510,16 @@ pub fn judge(
     ensures { outcome result baseline_store.new ≡ judge_of ids set window mean_amplitude.now baseline_store.old }
 {
     match judge_verdict(ids, set, mean_amplitude.len(), baseline_store.len()) {
-        Reply::Refused(why) => {
+        Err(why) => {
             let batch = empty();
             Judged {
-                reply: Reply::Refused(why),
+                reply: Err(why),
                 ids,
                 set,
                 batch,
             }
         }
-        Reply::Done => {
+        Ok(()) => {
             let old = set.slots;
             let count = set.count;
             let g = judge_all(
@@ -598,7 +534,7 @@ pub fn judge(
             let batch = g.batch;
             let event = ids.event + batch.count as u64;
             Judged {
-                reply: Reply::Done,
+                reply: Ok(()),
                 ids: Ids {
                     window: ids.window,
                     event,

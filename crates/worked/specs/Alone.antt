@@ -1,11 +1,9 @@
 -- A detector by itself, made by `with_config` and given windows by `on_window`. Definitions only.
-use Rattle.std.specs.Prelude.{List, [], ◌∷◌, ◌++◌, cond, eqb, length, Float}
+use Rattle.std.specs.Prelude.{ℕ, List, [], ◌∷◌, ◌++◌, Option, Some, None, cond, eqb, length, Float}
 use Rattle.detectors.specs.Answers as detector
 use Rattle.drift.specs.Distance.{distance_of}
 use Rattle.drift.specs.Drift.{drift_step}
 use Rattle.drift.specs.declared.BaselineDriftConfig.{BaselineDriftConfig}
-use Rattle.drift.specs.declared.Baseline.{Baseline}
-use Rattle.drift.specs.declared.Baseline.TheVariants.{Unset, Set}
 use Rattle.drift.specs.declared.DriftState.{DriftState}
 use Rattle.worked.specs.Rows.{Fact, event, distance}
 use Rattle.worked.specs.Runs.{Reply, goes, stops}
@@ -36,9 +34,9 @@ beside store first (goes s facts) = goes (record { state = s; store = store }) (
 beside store first (stops why) = stops why
 
 -- the distance that a list is judged by, where there is a baseline of its length
-abbrev pub distances : Baseline → List Float → List Float → List Fact
-distances Unset l store = []
-distances (Set n) l store = cond (eqb n (length l)) (distance (distance_of l store) ∷ []) []
+abbrev pub distances : Option ℕ → List Float → List Float → List Fact
+distances None l store = []
+distances (Some n) l store = cond (eqb n (length l)) (distance (distance_of l store) ∷ []) []
 
 unfoldable pub drift_on : BaselineDriftConfig → Drifting → List Float → Reply Drifting
 drift_on c s l =

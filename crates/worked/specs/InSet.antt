@@ -3,9 +3,7 @@ use Rattle.std.specs.Prelude.{List, [], ◌++◌, map, take, replicate, Float}
 use Rattle.floats.specs.Clamp.{zero32, one32}
 use Rattle.rvcsi_core.specs.Counters.{fresh_ids}
 use Rattle.rvcsi_core.specs.declared.event.CsiEvent.{CsiEvent}
-use Rattle.rvcsi_core.specs.declared.event.CsiEventKind.{CsiEventKind}
-use Rattle.rvcsi_core.specs.declared.event.CsiEventKind.TheVariants.{PresenceStarted, PresenceEnded, MotionDetected, MotionSettled, BaselineChanged, SignalQualityDropped, AnomalyDetected, CalibrationRequired}
-use Rattle.detectors.specs.Answers.{Kind, presence-started, presence-ended, motion-detected, motion-settled, baseline-changed, quality-dropped, anomaly, calibration}
+use Rattle.detectors.specs.Answers.{kind_of}
 use Rattle.slots.specs.declared.Detector.{Detector}
 use Rattle.slots.specs.declared.Detector.TheVariants.{Presence, Motion, Quality, Drift}
 use Rattle.slots.specs.declared.DetectorConfig.{DetectorConfig}
@@ -18,16 +16,6 @@ use Rattle.slots.specs.Runs.{Turn}
 use Rattle.worked.specs.Rows.{Fact, event}
 use Rattle.worked.specs.Runs.{Reply, numbered}
 use Rattle.worked.specs.Alone.{distances}
-
-abbrev pub kind_of : CsiEventKind → Kind
-kind_of PresenceStarted = presence-started
-kind_of PresenceEnded = presence-ended
-kind_of MotionDetected = motion-detected
-kind_of MotionSettled = motion-settled
-kind_of BaselineChanged = baseline-changed
-kind_of SignalQualityDropped = quality-dropped
-kind_of AnomalyDetected = anomaly
-kind_of CalibrationRequired = calibration
 
 -- the events of a batch
 abbrev pub batched : Batch → List Fact

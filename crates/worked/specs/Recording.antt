@@ -6,12 +6,12 @@ use Rattle.rvcsi_core.specs.Counters.{fresh_ids}
 use Rattle.rvcsi_core.specs.declared.frame.CsiFrame.{CsiFrame}
 use Rattle.rvcsi_core.specs.declared.event.CsiEvent.{CsiEvent}
 use Rattle.buffer_rules.specs.Paper.{nothing, answer}
+use Rattle.detectors.specs.Answers.{kind_of}
 use Rattle.slots.specs.declared.Batch.{Batch}
 use Rattle.pipeline.specs.Making.{defaults_of}
 use Rattle.pipeline.specs.Process.{Outcome, refused_of, process_of}
 use Rattle.worked.specs.Rows.{Fact, listed}
 use Rattle.worked.specs.Runs.{Reply, goes, numbered}
-use Rattle.worked.specs.InSet.{kind_of}
 
 -- "Session 1, source 1, .. flag 1, one subcarrier, no pairs, quality 0.25", at a time in seconds
 abbrev pub record_at : ℕ → CsiFrame

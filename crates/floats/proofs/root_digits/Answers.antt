@@ -1,6 +1,5 @@
 -- `floats::root_digits` meets its contract. The invariant: q is the whole root of the i leading pairs of digits of a, r what its square leaves, and w the pairs to come. Assumes nothing.
-use Rattle.std.proofs.Common.{◌≡◌, ℕ, ◌+◌, ◌-◌, ◌*◌, ◌/◌, ◌%◌, ◌^◌, ◌<◌, ◌≤◌, sym, ap, ◌∙◌, subst, lt_of_lt_of_le, mul_assoc, mul_comm, pow-suc, mul-one, add-one, arith, pow_pos, pow_mono}
-use Rattle.floats.specs.Parts.{Rooted}
+use Rattle.std.proofs.Common.{◌≡◌, ℕ, ◌+◌, ◌-◌, ◌*◌, ◌/◌, ◌%◌, ◌^◌, ◌<◌, ◌≤◌, sym, ap, ◌∙◌, subst, lt_of_lt_of_le, mul_assoc, mul_comm, pow-suc, add-one, arith, pow_mono}
 use Rattle.floats.proofs.Squares.{sq_twice, sq_odd}
 use Rattle.floats.proofs.root_digits.Invariants.{So}
 use Rattle.floats.proofs.root_digits.Goals as goal
@@ -30,51 +29,24 @@ module _ {a q r w i : ℕ} (s : So a q r w i) (l : i < 54) where
       let p : 2 ^ (i + 1) ≡ 2 ^ i * 2 = two i in
       record { square = omega arith; rest = omega arith; digits = omega arith; few = omega arith; word = omega arith }
 
-start : (a : ℕ) → a < 18446744073709551616 → So a 0 0 a 0
-start a h = let e : a * 4 ^ 0 ≡ a = mul-one a in record { square = omega arith; rest = omega arith; digits = pow_pos 0; few = omega arith; word = h }
-
-split : (x w a : ℕ) → x * 18446744073709551616 + w ≡ a * 324518553658426726783156020576256 → w < 18446744073709551616 → x ≡ a * 17592186044416
-split x w a e h = omega arith
-
-ends : {a q r w i : ℕ} → So a q r w i → 54 ≤ i → Rooted a q r
-ends {a} {q} {r} {w} {i} s h = let e : i ≡ 54 = last s.few in record { square = split (q * q + r) w a (s.square ∙ ap (λ (x : ℕ). a * 4 ^ x) e) s.word; rest = s.rest }
-  where
-    last : i ≤ 54 → i ≡ 54
-    last k = omega arith
-
-pub loop-i-init : goal.loop-i-init
-loop-i-init c = start c.args.a c.ranges.a.fits
-
 pub overflow_mul-t : goal.overflow_mul-t
-overflow_mul-t c = let b = bound c.loop-i.invariant (omega arith) in record { fits = omega arith }
+overflow_mul-t c = let b = bound c.loop.invariant (omega arith) in record { fits = omega arith }
 
 pub overflow_add-t : goal.overflow_add-t
-overflow_add-t c = let b = bound c.loop-i.invariant (omega arith) in record { fits = omega arith }
+overflow_add-t c = let b = bound c.loop.invariant (omega arith) in record { fits = omega arith }
 
 pub overflow_mul-s : goal.overflow_mul-s
-overflow_mul-s c = let b = bound c.loop-i.invariant (omega arith) in record { fits = omega arith }
+overflow_mul-s c = let b = bound c.loop.invariant (omega arith) in record { fits = omega arith }
 
 pub overflow_add-s : goal.overflow_add-s
-overflow_add-s c = let b = bound c.loop-i.invariant (omega arith) in record { fits = omega arith }
+overflow_add-s c = let b = bound c.loop.invariant (omega arith) in record { fits = omega arith }
 
-pub overflow_mul-q : goal.overflow_mul-q
-overflow_mul-q c = let b = bound c.loop-i.invariant (omega arith) in record { fits = omega arith }
-
-pub overflow_mul-q-else-t-s : goal.overflow_mul-q-else-t-s
-overflow_mul-q-else-t-s c = let b = bound c.loop-i.invariant (omega arith) in record { fits = omega arith }
-
-pub overflow_add-q : goal.overflow_add-q
-overflow_add-q c = let b = bound c.loop-i.invariant (omega arith) in record { fits = omega arith }
-
-pub loop-i-preserved : goal.loop-i-preserved
-loop-i-preserved c =
-    let l = c.loop-i in
+pub loop-preserved : goal.loop-preserved
+loop-preserved c =
+    let l = c.loop in
     let a = c.args.a in
     let w' = l.w * 4 % 18446744073709551616 in
     elim c.if-t-s.branch [
-      | then-t-s u ↦ subst (λ (q : ℕ). So a q c.if-t-s.r w' (l.i + 1)) (sym u.q-is) (subst (λ (r : ℕ). So a (l.q * 2) r w' (l.i + 1)) (sym u.r-is) (zero-digit l.invariant (omega arith) u.if-t-s.true))
-      | else-t-s u ↦ subst (λ (q : ℕ). So a q c.if-t-s.r w' (l.i + 1)) (sym u.q-is) (subst (λ (r : ℕ). So a (l.q * 2 + 1) r w' (l.i + 1)) (sym u.r-is) (one-digit l.invariant (omega arith) u.if-t-s.false))
+      | then-t-s u ↦ subst (λ (q : ℕ). So a q c.if-t-s.r w' (l.counter + 1)) (sym u.q-is) (subst (λ (r : ℕ). So a (l.q * 2) r w' (l.counter + 1)) (sym u.r-is) (zero-digit l.invariant (omega arith) u.if-t-s.true))
+      | else-t-s u ↦ subst (λ (q : ℕ). So a q c.if-t-s.r w' (l.counter + 1)) (sym u.q-is) (subst (λ (r : ℕ). So a (l.q * 2 + 1) r w' (l.counter + 1)) (sym u.r-is) (one-digit l.invariant (omega arith) u.if-t-s.false))
     ]
-
-pub returns : goal.returns
-returns c = ends c.loop-i.invariant c.loop-i-test.false

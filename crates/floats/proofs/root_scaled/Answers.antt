@@ -1,20 +1,15 @@
 -- `floats::root_scaled` meets its contract: the laws are those of `proofs/Scaled.antt`. Assumes nothing.
-use Rattle.std.proofs.Common.{◌≡◌, ℕ, ◌+◌, ◌*◌, ◌/◌, ◌%◌, ◌^◌, ◌<◌, ◌≤◌, subst, le_trans, arith, shr_lt}
-use Prim.Native.Nat.{compare}
+use Rattle.std.proofs.Common.{◌≡◌, ℕ, ◌+◌, ◌*◌, ◌^◌, ◌<◌, ◌≤◌, subst, arith}
 use lib.Ieee.{binary64, of_bits}
-use lib.Ieee.Fits.{nearest-le}
 use lib.Ieee.Nearest.{closest}
 use Rattle.floats.specs.Sqrt.{root_of}
 use Rattle.floats.specs.Parts.{Rooted}
-use Rattle.floats.proofs.Scaled.{zeros, shift, place, zeros-in, shifted, place_in, lt, halved}
+use Rattle.floats.proofs.Scaled.{zeros, shift, place, zeros-in, shifted, lt, halved}
 use Rattle.floats.proofs.root_scaled.Goals as goal
 
 -- the laws' premises at the function's entry, and what the call of `root_digits` gives
 zs : (c : goal.Start) → (11 ≤ zeros c.args.g) × (zeros c.args.g ≤ 63)
 zs c = zeros-in c.args.g c.requires.g_nonzero c.requires.g_bound
-
-at : (c : goal.Start) → (place c.args.g c.args.e ≤ 1538) × (0 < place c.args.g c.args.e)
-at c = place_in c.args.g c.args.e c.requires.g_nonzero c.requires.g_bound c.requires.e_bound
 
 rooted : (c : goal.After-root_digits-d) → Rooted (c.args.g * 2 ^ shift c.args.g c.args.e) c.root_digits-d.result.q c.root_digits-d.result.r
 rooted c =
@@ -25,31 +20,16 @@ under : (c : goal.After-root_digits-d) → c.root_digits-d.result.q < 2 ^ 54
 under c = let a = c.before in lt a.args.g a.args.e a.requires.g_nonzero a.requires.g_bound a.requires.e_bound c.root_digits-d.result.q c.root_digits-d.result.r (rooted c)
 
 -- the root with its sticky digit
-half : (c : goal.After-sticky) → let k = c.before.before in let a = k.before in
-    (k.root_digits-d.result.q * 2 + c.sticky.result < 36028797018963968)
-    × (of_bits binary64 (place a.args.g a.args.e * 4503599627370496 + closest (k.root_digits-d.result.q * 2 + c.sticky.result) 4) ≡ root_of binary64 (a.args.g * 2 ^ (a.args.e + 1074)))
+half : (c : goal.After-from) → let k = c.before.before.before in let a = k.before in
+    (k.root_digits-d.result.q * 2 + c.from.result < 36028797018963968)
+    × (of_bits binary64 (place a.args.g a.args.e * 4503599627370496 + closest (k.root_digits-d.result.q * 2 + c.from.result) 4) ≡ root_of binary64 (a.args.g * 2 ^ (a.args.e + 1074)))
 half c =
-    let k = c.before.before in
+    let k = c.before.before.before in
     let a = k.before in
-    halved a.args.g a.args.e a.requires.g_nonzero a.requires.g_bound a.requires.e_bound k.root_digits-d.result.q k.root_digits-d.result.r (rooted k) c.sticky.result c.sticky.ensures
-
-small : (k c : ℕ) → k ≤ 1538 → c ≤ 9007199254740992 → k * 4503599627370496 + c < 18446744073709551616
-small k c a b = omega arith
-
-closest_le : (d : ℕ) → d < 36028797018963968 → closest d 4 ≤ 9007199254740992
-closest_le d h = le_trans (nearest-le (d / 4) (compare (d % 4 * 2) 4)) (shr_lt 53 2 h)
-
-pub overflow_cast-z : goal.overflow_cast-z
-overflow_cast-z c = let z = zs c in record { fits = omega arith }
-
-pub overflow_add-h : goal.overflow_add-h
-overflow_add-h c = let z = zs c in record { fits = omega arith }
+    halved a.args.g a.args.e a.requires.g_nonzero a.requires.g_bound a.requires.e_bound k.root_digits-d.result.q k.root_digits-d.result.r (rooted k) c.from.result c.from.ensures
 
 pub overflow_sub-h : goal.overflow_sub-h
 overflow_sub-h c = let z = zs c in omega arith
-
-pub overflow_shl-a : goal.overflow_shl-a
-overflow_shl-a c = let z = zs c in omega arith
 
 pub overflow_sub-k : goal.overflow_sub-k
 overflow_sub-k c = let z = zs c.before in omega arith
@@ -59,11 +39,6 @@ overflow_mul-halves c = let u = under c.before in record { fits = omega arith }
 
 pub overflow_add-halves : goal.overflow_add-halves
 overflow_add-halves c = let h = (half c).0 in record { fits = omega arith }
-
-pub overflow_add-result : goal.overflow_add-result
-overflow_add-result c =
-    let a = c.before.before.before.before in
-    record { fits = rw c.nearest.ensures (small (place a.args.g a.args.e) _ (at a).0 (closest_le _ (half c.before).0)) }
 
 pub returns : goal.returns
 returns c = rw c.nearest.ensures (half c.before).1

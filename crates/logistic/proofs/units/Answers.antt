@@ -2,7 +2,7 @@
 -- Assumes nothing.
 use Rattle.std.proofs.Common.{ℕ, ◌-◌, ◌*◌, ◌/◌, ◌%◌, ◌<◌, ◌≤◌, add-zero, arith, le-ltb, lt-ltb}
 use Rattle.logistic.specs.Score.{units_at}
-use Rattle.logistic.proofs.Rules.{never_falling, at_most}
+use Rattle.logistic.proofs.Rules.{never_falling}
 use Rattle.logistic.proofs.Line.{fits_product}
 use Rattle.logistic.proofs.units.Goals as goal
 
@@ -24,11 +24,6 @@ overflow_sub-result c =
 
 pub overflow_mul-result : goal.overflow_mul-result
 overflow_mul-result c = omega (arith, bound c)
-
-pub overflow_add-result : goal.overflow_add-result
-overflow_add-result c =
-    let u = c.args.u in
-    omega (arith, bound c, c.entry-a.ensures, at_most (u / 1024) (omega arith))
 
 pub returns-then-r-gt0 : goal.returns-then-r-gt0
 unfolding units_at

@@ -1,22 +1,25 @@
--- `records::read_field` meets its contract: the number, and the limit of its place among the six.
--- Assumes nothing.
-use Rattle.records.proofs.Heads.{no_number, free, flag-over, flag-fits, count-over, count_fits}
+-- Reading a field: the number, and the limit of its kind.
+use Rattle.std.proofs.Common.{arith}
+use Rattle.std.proofs.lemmas.Result.{err_from_is_err_and}
+use Rattle.records.proofs.Heads.{no_number, any-number, flag-within, flag-over, count-within, count-over}
 use Rattle.records.proofs.read_field.Goals as goal
 
-pub returns-then-i-lt3 : goal.returns-then-i-lt3
-returns-then-i-lt3 c = free _ _ _ _ c.in-Value.ensures _ c.if-i-lt3.true
+pub returns-in_err-read : goal.returns-in_err-read
+returns-in_err-read c =
+    let p = err_from_is_err_and c.from_residual.result c.from_residual.ensures.1 in
+    rw (p.1, p.2) (no_number _ _ c.args.field c.in_err-read.ensures)
 
-pub returns-then-value-gt1 : goal.returns-then-value-gt1
-returns-then-value-gt1 c = flag-over _ _ _ _ c.in-Value.ensures _ c.if-i-eq3.true c.if-value-gt1.true
+pub returns-in-Flag : goal.returns-in-Flag
+returns-in-Flag c = flag-over _ _ c.in_ok-read.ensures c.in-Flag.is (omega arith)
 
-pub returns-then-i-eq3 : goal.returns-then-i-eq3
-returns-then-i-eq3 c = flag-fits _ _ _ _ c.in-Value.ensures _ c.if-i-eq3.true c.if-value-gt1.false
+pub returns-in-Count : goal.returns-in-Count
+returns-in-Count c = count-over _ _ c.in_ok-read.ensures c.in-Count.is (omega arith)
 
-pub returns-then-value-gt256 : goal.returns-then-value-gt256
-returns-then-value-gt256 c = count-over _ _ _ _ c.in-Value.ensures _ c.if-i-lt3.false c.if-i-eq3.false c.requires c.if-value-gt256.true
+pub returns-in_default : goal.returns-in_default
+returns-in_default c = flag-within _ _ c.in_ok-read.ensures c.in-Flag.is (omega arith)
 
-pub returns-in-No : goal.returns-in-No
-returns-in-No c = no_number _ _ _ _ c.requires c.in-No.ensures
+pub returns-in_default-2 : goal.returns-in_default-2
+returns-in_default-2 c = count-within _ _ c.in_ok-read.ensures c.in-Count.is (omega arith)
 
-pub returns-else-value-gt256 : goal.returns-else-value-gt256
-returns-else-value-gt256 c = count_fits _ _ _ _ c.in-Value.ensures _ c.if-i-lt3.false c.if-i-eq3.false c.requires c.if-value-gt256.false
+pub returns-in_default-3 : goal.returns-in_default-3
+returns-in_default-3 c = any-number _ _ c.in_ok-read.ensures c.in_default.is

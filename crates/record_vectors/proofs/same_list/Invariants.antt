@@ -1,9 +1,0 @@
--- `record_vectors::same_list` is safe and ends. The measure is what is left to compare.
-use Rattle.std.proofs.Common.{◌-◌, length}
-use Rattle.record_vectors.proofs.same_list.Given as goal
-
-abbrev pub invariant-loop-i : goal.invariant-loop-i
-invariant-loop-i l = Unit {0}
-
-abbrev pub decreases-loop-i : goal.decreases-loop-i
-decreases-loop-i l = length l.l - l.i
