@@ -29,7 +29,7 @@ pub struct Moved<S> {
     pub second: Option<Judgement>,
 }
 
-// Reply 1: the settings are not accepted.
+// Reply 1: the settings are not accepted. The buffer's, of the same name, holds what they would have made.
 #[derive(Clone, Copy, Debug, PartialEq, Eq)]
 pub struct NotAccepted;
 

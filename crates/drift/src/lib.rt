@@ -12,7 +12,7 @@ ghost use Rattle.drift.specs.Drift.{most, length_ok, anomaly_if, streak_of, ewma
 use detectors::{Judgement, Moved, Settings};
 use rvcsi_core::event::CsiEventKind;
 
-// The places that a baseline store has, and the most values of a list.
+// The places that a baseline store has, and the most values of a list: this crate's `most`, of which its clauses speak.
 const MOST: usize = 256;
 
 // A baseline RMS up to this is taken for none: the distance is absolute.

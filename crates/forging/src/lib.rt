@@ -127,6 +127,7 @@ fn put(list: &mut [f32], index: usize, value: u64) {
     }
 }
 
+// Field, index and value as a script has them; each function here takes a field of its own type.
 pub fn forge_buffer(mut b: WindowBuffer, field: Buffer, index: usize, value: u64) -> WindowBuffer {
     match field {
         Buffer::MaxFrames => b.cfg.max_frames = value as usize,

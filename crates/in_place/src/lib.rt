@@ -22,7 +22,7 @@ fn hand_out(ids: &mut Ids, out: Minted) -> Option<u64>
     out.taken
 }
 
-// The next window number; the counters rise behind the reference.
+// The next window number; the counters rise behind the reference. A call of the manual, as `next_event`: what they share is `hand_out`.
 pub fn next_window(ids: &mut Ids) -> Option<u64>
     ensures { minted result ids.new ≡ next_window ids.old }
 {
@@ -58,7 +58,7 @@ fn answer(ids: &mut Ids, out: Processed) -> Answered
     }
 }
 
-// `pipeline::process_frame` on lent counters.
+// `pipeline::process_frame` on lent counters, with the lent lists as it takes them.
 pub fn process_frame(
     ids: &mut Ids,
     pipeline: EventPipeline,

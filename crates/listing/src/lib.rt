@@ -38,7 +38,7 @@ fn spell(out: &mut [u8], at: usize, base: u64, k: usize, n: u64)
     }
 }
 
-// How many zeros stand in front, the last digit aside.
+// How many zeros stand in front, the last digit aside. By a loop: of `position` under a slice one goal was left.
 fn zeros(text: &[u8]) -> usize
     ensures { (drop result text.now ≡ trimmed text.now) × (result ≤ length text.now) }
 {

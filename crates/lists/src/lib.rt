@@ -32,6 +32,7 @@ fn plus_square(sum: f64, x: f32) -> f64
 }
 
 // The f64 sum of squares of the first n values, or of all where there are fewer. A loop, here and below: after `fold` the proof isn't found.
+// The slice, and not `front`: its length is the clause's bound as it stands.
 #[tactic(auto, using(crate::proofs::Fold::sum_to_more), unfolding(crate::specs::Fold::sum_to))]
 pub fn squares(list: &[f32], n: usize) -> f64
     ensures { result ≡ sum_to binary64 (square_at list.now) (min n (length list.now)) }

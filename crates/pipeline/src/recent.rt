@@ -15,7 +15,7 @@ pub struct Recent {
     pub count: usize,
 }
 
-// No window yet. No `Default`: what the places hold beside a count of 0 says nothing.
+// No window yet. The promises have it by this name; a `Default` beside it would be a second way.
 #[tactic(auto, unfolding(crate::specs::Recents::none_kept))]
 pub fn none_kept() -> Recent
     ensures { result ≡ none_kept }

@@ -8,7 +8,6 @@ use std::io;
 use std::io::Read;
 
 // Reads until buf is full or the reader ends, and returns how many bytes it put at the start of buf. It ends with the first read that fails.
-// A `while` and no range: each turn takes as many bytes as came.
 pub fn read_full<R: Read>(reader: &mut R, buf: &mut [u8]) -> io::Result<usize>
     ensures bound { IfOk result (λ n. n ≤ length buf.new) }
     ensures bytes { IfOk result (λ n. Consumes (R.remaining reader.old) (R.remaining reader.new) (take n buf.new)) }

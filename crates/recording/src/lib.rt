@@ -121,6 +121,7 @@ fn floats_of(bits: &[u32], out: &mut [f32], n: usize)
 }
 
 // The record at a place of the input, its lists as floats. The three lists are lent here alone.
+// The arrays are named where a record is read: `ReadLists` borrows them, so a struct of them would be one more type for three lines.
 pub fn next_record(
     input: &[u8],
     at: usize,

@@ -98,6 +98,7 @@ struct Number {
     next: usize,
 }
 
+// `p` goes on with i, since the byte behind the nine is looked at too.
 fn read_number(input: &[u8], at: usize) -> Result<Number, Fault>
     ensures { result ≡ field_read at (number_in 9 (drop at input.now)) }
 {
@@ -163,7 +164,7 @@ fn read_field(input: &[u8], at: usize, field: Field) -> Result<Number, Fault>
     }
 }
 
-// The header that six numbers make, its quality still 0.
+// The header that six numbers make, its quality still 0. No `From`: six numbers are no header yet.
 fn header_of(v: [u64; 6]) -> Header
     ensures { result ≡ header_of v }
 {
@@ -179,6 +180,7 @@ fn header_of(v: [u64; 6]) -> Header
 }
 
 // The six numbers of a record, and the place after them.
+// By index: of what `iter_mut` beside a zip leaves in a list, no more than the length is known.
 fn read_head(input: &[u8], at: usize) -> Result<Record, ReadError>
     ensures { result ≡ head_read (fields_in numbers at (drop at input.now)) }
 {
@@ -282,7 +284,7 @@ pub fn read_record(
     read_body(input, head.next, head.header, lists)
 }
 
-// ---- writing
+// ---- writing. Each part writes from `at` on and returns the place behind it: the clauses are `sets out.old at ..`.
 
 // What a record is written of: its numbers, and its floats as their bits.
 trait Written: Copy {

@@ -15,7 +15,7 @@ pub struct Minted {
     pub ids: Ids,
 }
 
-// Counters from which nothing was taken yet: a call of the manual, so no default.
+// Counters from which nothing was taken yet. The manual begins with this call; a `Default` beside it would be a second way.
 pub fn fresh() -> Ids
     ensures { result ≡ fresh_ids }
 {

@@ -24,7 +24,7 @@ pub const PLACES: usize = 4;
 
 pub const MOST: usize = 6;
 
-// How many values a baseline has at most, and how many the lent store must have.
+// How many values a baseline has at most, and how many the lent store must have: `part`, of which the clauses speak.
 pub const PART: usize = 256;
 
 pub const ROOM: usize = 256;
@@ -128,7 +128,7 @@ fn with_state<S: Copy>(detector: Detector, m: Moved<S>) -> Moved<Detector>
     }
 }
 
-// One window of a drift detector. No refusal comes: each was asked before.
+// One window of a drift detector. `Ready` says that no refusal comes; the arm stands, as no public function asks anything of its caller.
 fn step_drift(
     c: BaselineDriftConfig,
     s: DriftState,
@@ -150,13 +150,14 @@ fn step_drift(
 
 // ---- the set
 
-// Where the baseline of slot i begins.
+// Where the baseline of slot i begins: at 0 for every i, since a set has one drift detector at most. The laws speak of `place_of i`.
 fn place_of(i: usize) -> usize
     ensures { result ≡ place_of i }
 {
     0
 }
 
+// By a function, since the definitions `kinds_of` and `judge_to` speak of `detector_at`.
 fn detector_at(slots: [Slot; PLACES], i: usize) -> Detector
     requires { i < places }
     ensures { result ≡ detector_at slots i }
@@ -261,7 +262,7 @@ fn made(c: DetectorConfig) -> Detector
     }
 }
 
-// A set with no detector. No `Default`: what the slots hold beside a count of 0 says nothing, here and in an empty batch.
+// A set with no detector. The promises have it by this name, as they have `empty`; a `Default` beside it would be a second way.
 pub fn no_detectors() -> Detectors
     ensures { result ≡ no_detectors }
 {
@@ -462,7 +463,7 @@ fn judge_all(
     g
 }
 
-// Reply 13, 14, 5 or 8.
+// Reply 13, 14, 5 or 8. The first three are `drift`'s too: here they are asked of the whole set, before any detector steps.
 #[derive(Clone, Copy, Debug, PartialEq, Eq)]
 pub enum Refusal {
     StoreShort,
