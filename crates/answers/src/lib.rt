@@ -7,9 +7,11 @@ use rvcsi_core::event::CsiEvent;
 use rvcsi_core::window::CsiWindow;
 use slots::Batch;
 use std::io::Write;
-use std::{fmt, io};
+use std::{fmt, io, str};
 
 const ROOM: usize = 65536;
+
+const DIGITS: [u8; 16] = *b"0123456789abcdef";
 
 // A writer, and what was answered but is not yet written: the first `end` bytes.
 #[derive(Drop)]
@@ -49,14 +51,32 @@ impl<W: Write> Write for Answers<W> {
     }
 }
 
+// A space, and the bits of a float as 8 hexadecimal digits. By hand: answers are floats for the most part, and `{:08x}` takes half as long again.
+fn spaced(x: f32) -> [u8; 9] {
+    let mut text = *b" 00000000";
+    let mut rest = floats::to_bits(x);
+    for digit in text[1..].iter_mut().rev() {
+        *digit = DIGITS[(rest % 16) as usize];
+        rest /= 16;
+    }
+    text
+}
+
+// Text to a formatter. It is ASCII: the error never comes.
+fn put<W: fmt::Write>(f: &mut fmt::Formatter<W>, text: &[u8]) -> fmt::Result {
+    match str::from_utf8(text) {
+        Ok(text) => f.write_str(text),
+        Err(_) => Err(fmt::Error),
+    }
+}
+
 // A float by its bits.
 #[derive(Clone, Copy)]
 pub struct Float(pub f32);
 
 impl fmt::Display for Float {
     fn fmt<W: fmt::Write>(&self, f: &mut fmt::Formatter<W>) -> fmt::Result {
-        let bits = floats::to_bits(self.0);
-        write!(f, "{bits:08x}")
+        put(f, &spaced(self.0)[1..])
     }
 }
 
@@ -67,7 +87,7 @@ pub struct Floats<'a>(pub &'a [f32]);
 impl fmt::Display for Floats<'_> {
     fn fmt<W: fmt::Write>(&self, f: &mut fmt::Formatter<W>) -> fmt::Result {
         for x in self.0 {
-            write!(f, " {}", Float(*x))?;
+            put(f, &spaced(*x))?;
         }
         Ok(())
     }

@@ -8,6 +8,7 @@ use mathlib.Core.Logic.{⊎_elim}
 use lib.ListN.{length, take, drop, get_or, length-drop, get_or-append, drop_of_length-le}
 use lib.Seq.{paste, take_all, take-length, drop-length, drop-drop, get_or-take, get_or-drop, get_or-append-add, length-take-le, length_paste_head}
 use Rattle.lists.specs.Laid.{laid}
+use Rattle.lists.proofs.Tab.{Over, tab-take}
 
 module _ {A : Type 0} where
   -- ---- a list laid over the front of a store
@@ -28,6 +29,10 @@ module _ {A : Type 0} where
       (λ b. let g : k ≡ length l = omega arith in rw (g, take-length l) (sym (laid-fits l s (omega arith))))
       (λ b. let g : k ≡ length s = omega arith in rw (g, drop-length s) (sym (laid-long l s (omega arith))))
       (eq-or-lt_of_le (min-le_left (length l) (length s)))
+
+  -- what a loop that copies place by place leaves, once the shorter length is copied
+  pub over-laid : (z : A) (l s : List A) {out : List A} {k : ℕ} → Over (λ i. get_or l i z) s k out → k ≡ min (length l) (length s) → out ≡ laid l s
+  over-laid z l s {out} {k} o e = o.is ∙ rw (← tab-take z l k (omega (arith, min-le_left (length l) (length s)))) (laid_front l s e)
 
   laid_from : (d s : List A) (at : ℕ) → at + length s ≤ length d → take at d ++ laid s (drop at d) ≡ paste d at s (length s)
   laid_from d s at h =

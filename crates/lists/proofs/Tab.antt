@@ -1,5 +1,5 @@
 -- Laws of the list of f 0, .., f (n - 1), and of a loop that writes it over the front of a list. Assumes nothing.
-use Prim.Native.Nat.{ℕ, zero, suc, ◌+◌, ◌<◌}
+use Prim.Native.Nat.{ℕ, zero, suc, ◌+◌, ◌≤◌, ◌<◌}
 use mathlib.Core.Path.{◌≡◌, refl, sym, ap, ◌∙◌}
 use mathlib.Core.List.{List, [], ◌∷◌, ◌++◌, append-nil}
 use native.Mathlib.Numerals.{add-one}
@@ -7,8 +7,8 @@ use native.Mathlib.Omega.{arith}
 use native.Mathlib.Nat.{eq-or-lt_of_le}
 use mathlib.Core.Logic.{⊎_elim}
 use Rattle.std.proofs.lemmas.List.{replicate_more}
-use lib.ListN.{length, replicate, drop, set, get_or, length-append, length-set, get_or-append}
-use lib.Seq.{drop-cons, set_at, append_snoc, get_or_at, drop-length}
+use lib.ListN.{length, replicate, take, drop, set, get_or, length-append, length-set, get_or-append}
+use lib.Seq.{drop-cons, set_at, append_snoc, get_or_at, get_or-take, ext_get_or, drop-length, length-take-le}
 use Rattle.lists.specs.Tab.{tab}
 
 module _ {A : Type 0} where
@@ -70,6 +70,16 @@ module _ {A : Type 0} where
       (λ e. rw e (get_or_at (tab f n) (f n) [] z n (length-tab f n)))
       (λ b. get_or-append (tab f n) (f n ∷ []) z k (omega (arith, length-tab f n)) ∙ getD-tab f n k z b)
       (eq-or-lt_of_le {n = k} {m = n} (omega arith))
+
+  -- a list that has f k at each place k is the list of them
+  pub tab-ext : (f : ℕ → A) (z : A) (l : List A) → ((k : ℕ) → k < length l → get_or l k z ≡ f k) → l ≡ tab f (length l)
+  tab-ext f z l e = ext_get_or z l (tab f (length l)) (sym (length-tab f (length l))) (λ k h. e k h ∙ sym (getD-tab f (length l) k z h))
+
+  -- the first n of a list
+  pub tab-take : (z : A) (l : List A) (n : ℕ) → n ≤ length l → take n l ≡ tab (λ k. get_or l k z) n
+  tab-take z l n h =
+      let e : length (take n l) ≡ n = length-take-le n l h in
+      rw e at (tab-ext (λ k. get_or l k z) z (take n l) (λ k b. get_or-take n l k z (omega arith)))
 
   -- the list of one value
   pub tab-replicate : (v : A) (n : ℕ) → replicate n v ≡ tab (λ k. v) n

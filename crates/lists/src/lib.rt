@@ -15,12 +15,15 @@ pub fn front<T>(list: &[T], n: usize) -> &[T]
     &list[..n.min(list.len())]
 }
 
-// The list over the front of a store, as much of it as the store can take; the other places stay.
+// The list over the front of a store, as much of it as the store can take; the other places stay. Place by place: for `copy_from_slice`
+// the archive that C links would ask for `memmove`.
 pub fn copy_over(list: &[f32], store: &mut [f32])
     ensures { store.new ≡ laid list.now store.old }
 {
     let n = list.len().min(store.len());
-    store[..n].copy_from_slice(&list[..n]);
+    for k in 0..n {
+        store[k] = list[k];
+    }
 }
 
 // A sum and the square of one value more, which is taken in f64.

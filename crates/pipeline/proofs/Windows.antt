@@ -1,22 +1,47 @@
 -- What is remembered: the newest 32. Assumes nothing.
-use mathlib.Core.Path.{◌≡◌, refl, sym, ◌∙◌}
+use mathlib.Core.Path.{◌≡◌, refl, sym, ap, ◌∙◌}
 use mathlib.Core.Bool.{Bool, true, false}
 use mathlib.Core.List.{List, [], ◌∷◌, ◌++◌}
-use Prim.Native.Nat.{◌-◌, ◌≤◌, ◌<◌}
+use Prim.Native.Nat.{ℕ, zero, suc, ◌+◌, ◌-◌, ◌≤◌, ◌<◌}
 use native.Mathlib.Numerals.{add-one}
 use native.Mathlib.Omega.{arith}
 use borrow.Author.Tests.{lt-ltb, le-ltb, ltb-true, ltb-false}
 use lib.Dec.{ltb}
-use lib.ListN.{set, length, take, drop, length-append, length-drop}
-use lib.Seq.{take-suc-set, take_all, set_at, drop-append-le, length-take-le}
+use lib.ListN.{set, length, take, drop, get_or, length-append, length-drop, drop_of_length-le}
+use lib.Seq.{take-suc, take-suc-set, take_all, get_or-drop, drop-cons, set_at, drop-append-le, length-take-le}
+use lib.Ieee.{nan}
+use Rattle.lists.specs.Tab.{tab}
 use Rattle.rvcsi_core.specs.declared.window.CsiWindow.{CsiWindow}
 use Rattle.pipeline.specs.declared.recent.Recent.{Recent}
 use Rattle.pipeline.specs.Recents.{held, newest, remember_of}
 
--- the oldest goes to the end, and w over it
-pub shifted_is : (l : List CsiWindow) (w : CsiWindow) → length l ≡ 32 → set (drop 1 l ++ take 1 l) 31 w ≡ drop 1 l ++ (w ∷ [])
-shifted_is [] w long = absurd (omega arith)
-shifted_is (x ∷ xs) w long = set_at xs x [] w 31 (omega arith)
+-- read beyond a list's end, which no rule does
+abbrev pub blank : CsiWindow
+blank =
+    record {
+      window_id = 0;
+      session_id = 0;
+      source_id = 0;
+      start_ns = 0;
+      end_ns = 0;
+      frame_count = 0;
+      motion_energy = nan;
+      presence_score = nan;
+      quality_score = nan;
+    }
+
+shift : (l : List CsiWindow) (n : ℕ) → n + 1 ≤ length l → tab (λ k. get_or l (k + 1) blank) n ≡ take n (drop 1 l)
+unfolding tab
+shift l zero h = refl
+shift l (suc n) h =
+    let e : get_or l (n + 1) blank ≡ get_or (drop 1 l) n blank = ap (λ (k : ℕ). get_or l k blank) (omega arith) ∙ sym (get_or-drop 1 l n blank) in
+    rw (shift l n (omega arith), e) (sym (take-suc (drop 1 l) n blank (omega (arith, length-drop 1 l))))
+
+pub shifted_is : (l out : List CsiWindow) (w : CsiWindow) → length l ≡ 32 → out ≡ tab (λ k. get_or l (k + 1) blank) 31 ++ drop 31 l → set out 31 w ≡ drop 1 l ++ (w ∷ [])
+shifted_is l out w long e =
+    let none : drop 32 l ≡ [] = let h : length l ≤ 32 = omega arith in drop_of_length-le l h in
+    let front : tab (λ k. get_or l (k + 1) blank) 31 ≡ drop 1 l = shift l 31 (omega arith) ∙ take_all 31 (drop 1 l) (omega (arith, length-drop 1 l)) in
+    rw (e, front, drop-cons l 31 blank (omega arith), none) (set_at (drop 1 l) (get_or l 31 blank) [] w 31 (omega (arith, length-drop 1 l)))
 
 module _ (r : Recent) (w : CsiWindow) where
   module _ (long : length r.windows ≡ 32) where

@@ -1,5 +1,5 @@
 // The newest 32 windows, newest last.
-ghost use Rattle.std.specs.Prelude.{◌≡◌};
+ghost use Rattle.std.specs.Prelude.{◌≡◌, ◌∷◌, ◌++◌, [], drop};
 ghost use Rattle.pipeline.specs.Recents.{none_kept, remember_of};
 
 use rvcsi_core::window::CsiWindow;
@@ -37,23 +37,34 @@ pub fn none_kept() -> Recent
     }
 }
 
-// The window joins the others; of more than 32 the oldest goes.
-#[tactic(auto, using(crate::proofs::Windows::shifted_is), unfolding(crate::specs::Recents::remember_of))]
+// The oldest goes, and w comes behind the others.
+fn shifted(old: [CsiWindow; RECENT_WINDOW_CAP], w: CsiWindow) -> [CsiWindow; RECENT_WINDOW_CAP]
+    ensures { result ≡ drop 1 old ++ (w ∷ []) }
+{
+    let mut new = old;
+    for k in 0..31 {
+        new[k] = old[k + 1];
+    }
+    new[31] = w;
+    new
+}
+
+// The window joins the others; of more than 32 the oldest goes. Over a copy of all that is kept: over one of the array alone, and by the library's
+// `rotate_left`, the compiler copies the windows at each frame.
+#[tactic(auto, unfolding(crate::specs::Recents::remember_of))]
 pub fn remember(r: Recent, w: CsiWindow) -> Recent
     ensures { result ≡ remember_of r w }
 {
-    let mut windows = r.windows;
-    if r.count < RECENT_WINDOW_CAP {
-        windows[r.count] = w;
-        return Recent {
-            windows,
-            count: r.count + 1,
-        };
+    let at = r.count;
+    if at < RECENT_WINDOW_CAP {
+        let mut out = r;
+        out.windows[at] = w;
+        out.count = at + 1;
+        return out;
     }
-    windows.rotate_left(1);
-    windows[31] = w;
+    let old = r.windows;
     Recent {
-        windows,
+        windows: shifted(old, w),
         count: RECENT_WINDOW_CAP,
     }
 }

@@ -23,12 +23,10 @@ pub fn full() -> Lent {
 }
 
 // Place p holds the float with bits 0x3f000000 + p.
-fn fresh<const N: usize>() -> [f32; N] {
-    let mut store = [0.0; N];
+fn refresh(store: &mut [f32]) {
     for (place, bits) in store.iter_mut().zip(0x3f00_0000u32..0x4000_0000) {
         *place = floats::from_bits(bits);
     }
-    store
 }
 
 // The first n places of a store that is written, or all where there are fewer; `lists::front` is for one that is read.
@@ -46,13 +44,24 @@ fn sum(store: &[f32]) -> u64 {
 
 impl Stores {
     pub fn fresh() -> Self {
-        Stores {
-            amplitudes: fresh(),
-            phases: fresh(),
-            baseline: fresh(),
-            means: fresh(),
-            variances: fresh(),
-        }
+        let mut stores = Stores {
+            amplitudes: [0.0; 4104],
+            phases: [0.0; 4104],
+            baseline: [0.0; 264],
+            means: [0.0; 264],
+            variances: [0.0; 264],
+        };
+        stores.refresh();
+        stores
+    }
+
+    // What a script begins with, in place.
+    pub fn refresh(&mut self) {
+        refresh(&mut self.amplitudes);
+        refresh(&mut self.phases);
+        refresh(&mut self.baseline);
+        refresh(&mut self.means);
+        refresh(&mut self.variances);
     }
 
     pub fn sums(&self) -> [u64; 5] {

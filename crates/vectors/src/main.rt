@@ -82,13 +82,17 @@ impl Tally {
 }
 
 // The cases of a whole file. The turns are bounded by a number that no file uses up.
-fn compare_file<F: Fn(u64) -> u64, R: Read>(helper: &F, file: &mut R) -> io::Result<Tally>
+// The buffer is lent, so that it stands on the stack once.
+fn compare_file<F: Fn(u64) -> u64, R: Read>(
+    helper: &F,
+    file: &mut R,
+    buffer: &mut [u8; 65536],
+) -> io::Result<Tally>
     requires { F.IsAlwaysCallable helper.now }
 {
     let mut tally = Tally::default();
     for _ in 0..u64::MAX {
-        let mut buffer = [0u8; 65536];
-        let n = reading::read_full(file, &mut buffer)?;
+        let n = reading::read_full(file, buffer)?;
         if n == 0 {
             break;
         }
@@ -114,6 +118,7 @@ fn report(rt: &impl Print, name: &str, tally: Tally) -> io::Result<()> {
 // A file that cannot be opened is named on standard error.
 fn run<F: Fn(u64) -> u64 + Drop>(
     rt: &(impl Files + Print + Eprint),
+    buffer: &mut [u8; 65536],
     name: &str,
     helper: F,
 ) -> io::Result<()>
@@ -121,7 +126,7 @@ fn run<F: Fn(u64) -> u64 + Drop>(
 {
     match fs::open(rt, name) {
         Ok(mut file) => {
-            let tally = compare_file(&helper, &mut file)?;
+            let tally = compare_file(&helper, &mut file, buffer)?;
             report(rt, name, tally)
         }
         Err(e) => eprintln!(rt; "{name}: {e}"),
@@ -129,23 +134,47 @@ fn run<F: Fn(u64) -> u64 + Drop>(
 }
 
 fn main(rt: HostRuntime) -> io::Result<()> {
-    run(&rt, "roots", |x| floats::to_bits(floats::root(wide(x))))?;
-    run(&rt, "narrowings", |x| pattern(floats::narrow(wide(x))))?;
+    let mut buffer = [0u8; 65536];
     run(
         &rt,
+        &mut buffer,
+        "roots",
+        |x| floats::to_bits(floats::root(wide(x))),
+    )?;
+    run(
+        &rt,
+        &mut buffer,
+        "narrowings",
+        |x| pattern(floats::narrow(wide(x))),
+    )?;
+    run(
+        &rt,
+        &mut buffer,
         "widenings",
         |x| floats::to_bits(floats::widen(float(x))),
     )?;
-    run(&rt, "clamps", |x| pattern(floats::clamp01(float(x))))?;
-    run(&rt, "finite", |x| u64::from(floats::is_finite(float(x))))?;
     run(
         &rt,
+        &mut buffer,
+        "clamps",
+        |x| pattern(floats::clamp01(float(x))),
+    )?;
+    run(
+        &rt,
+        &mut buffer,
+        "finite",
+        |x| u64::from(floats::is_finite(float(x))),
+    )?;
+    run(
+        &rt,
+        &mut buffer,
         "finite_wide",
         |x| u64::from(floats::is_finite(wide(x))),
     )?;
-    run(&rt, "patterns", |x| pattern(float(x)))?;
+    run(&rt, &mut buffer, "patterns", |x| pattern(float(x)))?;
     run(
         &rt,
+        &mut buffer,
         "finite_patterns",
         |x| u64::from(floats::bits_finite(short(x))),
     )?;
@@ -155,7 +184,7 @@ fn main(rt: HostRuntime) -> io::Result<()> {
         "logistic_edges",
         "logistic_spread",
     ] {
-        run(&rt, name, |x| scored(float(x)))?;
+        run(&rt, &mut buffer, name, |x| scored(float(x)))?;
     }
-    run(&rt, "logistic_presence", present)
+    run(&rt, &mut buffer, "logistic_presence", present)
 }

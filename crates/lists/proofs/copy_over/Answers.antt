@@ -1,10 +1,17 @@
--- The front of the store is that of the list. Assumes nothing.
-use Rattle.std.proofs.lemmas.Grind.{common_steps}
-use Rattle.std.proofs.Common.{◌≡◌, arith, take}
-use Rattle.lists.proofs.Paste.{laid_front}
+-- What is copied so far stands over the front of the store. Assumes nothing.
+use mathlib.Core.Path.{refl}
+use native.Mathlib.Omega.{arith}
+use borrow.Author.Rules.{rules}
+use lib.Ieee.{nan}
+use Rattle.lists.proofs.Tab.{over_none, over-more}
+use Rattle.lists.proofs.Paste.{over-laid}
 use Rattle.lists.proofs.copy_over.Goals as goal
 
+pub loop-k-init : goal.loop-k-init
+loop-k-init c = (search rules, over_none _ _)
+
+pub loop-k-preserved : goal.loop-k-preserved
+loop-k-preserved c = (omega arith, over-more c.loop-k.invariant.1 (omega arith) refl)
+
 pub returns : goal.returns
-returns c =
-    let e : c.copy_from_slice.new.self ≡ take c.min-n.result c.args.list.now = grind (arith, common_steps) in
-    rw e (laid_front c.args.list.now c.args.store.now c.min-n.ensures)
+returns c = over-laid nan _ _ c.loop-k.invariant.1 (omega (arith, c.min-n.ensures))
